@@ -79,8 +79,8 @@ impl Board {
             room,
             kept: vec![in alloc; 0; count as usize]?,
             clash: None,
+            payloads: Payloads::new(alloc)?,
             scheduler: Scheduler::new(alloc, count)?,
-            payloads: Payloads::new(),
         })
     }
 

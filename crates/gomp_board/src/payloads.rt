@@ -2,13 +2,14 @@
 //!
 //! OpenMP API 5.2, section 5.7.2 (the `copyprivate` clause).
 
-ghost use Rattle.std.specs.Prelude.{◌≡◌, ◌%◌, Some, None, replicate, slice_get, slice_set, option_copied};
+ghost use Rattle.std.specs.Prelude.{◌≡◌, ◌%◌, IfOk, Some, None, replicate, slice_get, slice_set, option_copied};
 ghost use Rattle.gomp_types.specs.declared.limits.TheConstants.{OPEN_SHARES};
 ghost use Rattle.gomp_board.specs.Payloads.{share_at, words_at};
 ghost use Rattle.gomp_board.specs.declared.payloads.Put.{Put};
 
 use gomp_shares::Places;
 use gomp_types::Payload;
+use std::alloc::{AllocError, Global};
 use std::marker::Model;
 
 /// The words that were put in a share.
@@ -20,29 +21,31 @@ pub struct Put {
     pub words: Payload,
 }
 
-/// The words of a team's singles. It takes no memory.
+/// The words of a team's singles. Only `new` takes memory: the words of eight singles are many, so
+/// they have a block of their own, and a board that moves does not copy them.
 #[derive(Debug, Drop)]
 pub struct Payloads {
-    places: Places<Put>,
+    places: Box<Places<Put>>,
 }
 
 impl Model for Payloads {
     ghost use Rattle.std.specs.Prelude.{List, Option};
+    ghost use Rattle.std.specs.Box.{box_value};
     ghost use Rattle.gomp_board.specs.declared.payloads.Put.{Put};
 
     ghost Value = { List (Option Put) };
 
-    ghost view = { λ payloads. payloads.places };
+    ghost view = { λ payloads. box_value payloads.places };
 }
 
 impl Payloads {
-    /// No words.
-    pub fn new() -> Payloads
-        ensures { result ≡ replicate OPEN_SHARES None }
+    /// No words. It fails if its memory is refused.
+    pub fn new(alloc: Global) -> Result<Payloads, AllocError>
+        ensures { IfOk result (λ payloads. payloads ≡ replicate OPEN_SHARES None) }
     {
-        Payloads {
-            places: Places::new(),
-        }
+        Ok(Payloads {
+            places: Box::new(alloc, Places::new())?,
+        })
     }
 
     /// The words put in this share; None if none were, or if words of another share were put over

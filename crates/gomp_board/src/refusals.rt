@@ -1,20 +1,17 @@
 //! Why an operation is refused.
 
-ghost use Rattle.std.specs.Prelude.{◌≡◌, ◌<◌, List, [], ◌∷◌, ◌++◌, ◌&&◌, ◌||◌, not, Option, Some, None, if◌then◌else◌, nat_le, nat_lt, length, reverse};
+ghost use Rattle.std.specs.Prelude.{◌≡◌, ◌<◌, List, ◌++◌, ◌&&◌, not, Option, Some, None, if◌then◌else◌, nat_lt, length, reverse};
 ghost use Rattle.gomp_events.specs.declared.event.Event.{Event};
 ghost use Rattle.gomp_types.specs.declared.depend.Dep.{Dep};
-ghost use Rattle.gomp_types.specs.declared.limits.TheConstants.{MAX_TASK_DEPTH, MAX_DEPENDS};
+ghost use Rattle.gomp_types.specs.declared.limits.TheConstants.{MAX_DEPENDS};
 ghost use Rattle.gomp_types.specs.declared.refusal.Refusal.TheVariants.{Mismatch};
-ghost use Rattle.gomp_events.specs.Tags.{tag_differs};
-ghost use Rattle.gomp_events.specs.Events.{barriers_passed, tag_at, at_region_end, was_region_end};
-ghost use Rattle.gomp_events.specs.Cancels.{is_cancelled, groups_over};
 ghost use Rattle.gomp_events.specs.CancelCalls.{cancel_tests, cancel_room, creates_covered};
-ghost use Rattle.gomp_events.specs.Tasks.{executed_task, in_task, depth_of, tasks_created};
+ghost use Rattle.gomp_events.specs.Tasks.{in_task};
 ghost use Rattle.gomp_types.specs.Tests.{Test, first_holding};
-ghost use Rattle.gomp_events.specs.TaskCalls.{group_is_open, has_some, lacks_room, items_tests, create_tests, end_task_tests, end_group_tests, outside_tasks_tests, room_tests};
+ghost use Rattle.gomp_events.specs.TaskCalls.{lacks_room, create_tests, end_task_tests, end_group_tests, outside_tasks_tests, room_tests};
 ghost use Rattle.gomp_events.specs.declared.room.TheConstants.{GROUP_ROOM, TASK_ROOM};
 ghost use Rattle.gomp_board.specs.declared.op.Op.TheVariants.{Arrive};
-ghost use Rattle.gomp_board.specs.Ops.{op_refusal, op_tests, op_member_tests, busy_tests, region_end_tests, creation_room_tests, arrival_asks, words_ask, awaits_barrier, goes_to_the_end, named_kind};
+ghost use Rattle.gomp_board.specs.Ops.{op_refusal, op_tests, op_member_tests, busy_tests, region_end_tests, creation_room_tests, arrival_asks, words_ask, awaits_barrier, named_kind};
 ghost use Rattle.gomp_board.specs.Boards.{Stands, members_of, kept_by};
 
 use crate::arrivals::arrival_asks;

@@ -1,6 +1,6 @@
 //! Tasks: their creation and their end. OpenMP API 5.2, section 12.5.
 
-ghost use Rattle.std.specs.Prelude.{◌≡◌, ◌<◌, ◌≤◌, ◌+◌, ◌++◌, List, [], true, false, reverse, IfOk, OnOk, IsOk, IsErr};
+ghost use Rattle.std.specs.Prelude.{◌≡◌, ◌<◌, ◌≤◌, ◌+◌, ◌++◌, List, true, false, reverse, OnOk, IsErr};
 ghost use Rattle.gomp_events.specs.declared.event.Event.{Event};
 ghost use Rattle.gomp_types.specs.declared.reply.Reply.TheVariants.{Wait};
 ghost use Rattle.gomp_events.specs.CancelCalls.{creates_covered};

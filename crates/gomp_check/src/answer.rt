@@ -1,9 +1,9 @@
 //! From a text to the line that says what it is, and the exit status.
 
-ghost use Rattle.std.specs.Prelude.{◌≡◌, IfOk, length, string_bytes};
-ghost use Rattle.gomp_script.specs.StepText.{read_line, steps_of};
+ghost use Rattle.std.specs.Prelude.{◌≡◌, IfOk, string_bytes};
+ghost use Rattle.gomp_script.specs.StepText.{steps_of};
 ghost use Rattle.gomp_region.specs.ScriptText.{script_of};
-ghost use Rattle.gomp_check.specs.Checked.{IsAnswer, begins_region, checked, counted, is_script, later_lines, line_kind, script_checked, steps_checked};
+ghost use Rattle.gomp_check.specs.Checked.{IsAnswer, checked, counted, is_script, later_lines, line_kind, script_checked, steps_checked};
 
 use gomp_region::{ScriptError, parse_script, print_bad_script};
 use gomp_script::{ParseError, Why, first_word, parse_steps, print_bad_line};

@@ -1,5 +1,5 @@
 -- Which takes count for a member, and how many pieces there are for it.
-use Rattle.std.proofs.Common.{◌≡◌, ℕ, ◌+◌, ◌%◌, ◌≤◌, ◌∙◌, false, List, [], ◌∷◌, Option, Some, None, refl, ap, arith, length, slice_get, inl, inr, sym}
+use Rattle.std.proofs.Common.{◌≡◌, ℕ, ◌+◌, ◌%◌, ◌≤◌, ◌∙◌, List, [], ◌∷◌, Option, Some, None, refl, ap, arith, length, slice_get, inl, inr, sym}
 use Rattle.std.specs.Prelude.{◌==◌, ◌^◌}
 use Rattle.std.proofs.lemmas.Bool.{cases_Bool, cases_lt}
 use Rattle.std.proofs.lemmas.Option.{slice_get_past}

@@ -1,6 +1,6 @@
 //! Pieces asked for one after another.
 
-ghost use Rattle.std.specs.Prelude.{◌≡◌, ◌<◌, ◌≤◌, ◌⊎◌, IfSome, Some, option_map, slice_get};
+ghost use Rattle.std.specs.Prelude.{◌≡◌, ◌<◌, IfSome, Some, option_map, slice_get};
 ghost use Rattle.gomp_chunks.specs.Plans.{IsPieceWithin, next_piece, pieces};
 ghost use Rattle.gomp_chunks.specs.Spots.{IsSpotAt};
 

@@ -13,7 +13,7 @@ mod guided;
 mod sections;
 mod single;
 
-ghost use Rattle.std.specs.Prelude.{◌≡◌, ◌≢◌, ◌<◌, ◌≤◌, ◌^◌, ◌⊎◌, length, slice_get, IfSome, OnSome};
+ghost use Rattle.std.specs.Prelude.{◌≡◌, ◌≢◌, ◌<◌, ◌≤◌, ◌^◌, length, slice_get, IfSome, OnSome};
 ghost use Rattle.gomp_types.specs.declared.shape.ShareKind.TheVariants.{Guided};
 ghost use Rattle.gomp_types.specs.Pieces.{Tiles};
 ghost use Rattle.gomp_types.specs.Values.{IsShape};

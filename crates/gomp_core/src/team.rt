@@ -1,6 +1,6 @@
 //! A team that one thread steps.
 
-ghost use Rattle.std.specs.Prelude.{◌≡◌, ◌≢◌, ◌<◌, ◌↔◌, ◌⊎◌, ◌∷◌, List, [], IfOk, Ok, Err, None, Some, option_copied, replicate};
+ghost use Rattle.std.specs.Prelude.{◌≡◌, ◌<◌, ◌↔◌, ◌⊎◌, ◌∷◌, List, [], IfOk, Ok, Err, None, Some, option_copied, replicate};
 ghost use Rattle.std.specs.Result.{result_err};
 ghost use Rattle.gomp_types.specs.declared.refusal.Refusal.{Refusal};
 ghost use Rattle.gomp_types.specs.declared.refusal.Refusal.TheVariants.{BadTeam, NoMemory, Mismatch};
@@ -9,7 +9,6 @@ ghost use Rattle.gomp_events.specs.declared.event.Event.{Event};
 ghost use Rattle.gomp_types.specs.Limits.{capped_limits, standard, IsTeamSize};
 ghost use Rattle.gomp_types.specs.Least.{lesser, least};
 ghost use Rattle.gomp_model.specs.Past.{no_waits};
-ghost use Rattle.gomp_model.specs.Calls.{row_of};
 ghost use Rattle.gomp_types.specs.Resumes.{call_meant};
 ghost use Rattle.gomp_model.specs.Team.{Record, row_at, member_tests, wait_tests, refusal_of, MayAnswer, events};
 ghost use Rattle.gomp_board.specs.Boards.{Stands as BoardStands, members_of as board_members};

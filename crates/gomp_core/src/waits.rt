@@ -1,7 +1,7 @@
 //! The calls of one member that are not answered whole: the one that waits, and those at which it
 //! started the tasks that it has not ended.
 
-ghost use Rattle.std.specs.Prelude.{◌≡◌, ◌<◌, ℕ, false, length, option_copied, IfOk, ◌∷◌, None, Some};
+ghost use Rattle.std.specs.Prelude.{◌≡◌, ◌<◌, ℕ, false, length, option_copied, IfOk, None, Some};
 ghost use Rattle.gomp_types.specs.declared.limits.TheConstants.{MAX_TASK_DEPTH};
 ghost use Rattle.gomp_types.specs.declared.reply.Reply.TheVariants.{Run, Wait};
 ghost use Rattle.gomp_model.specs.Past.{no_waits};

@@ -8,7 +8,7 @@ ghost use Rattle.gomp_types.specs.declared.task.TaskDesc.{TaskDesc};
 ghost use Rattle.gomp_types.specs.declared.depend.Dep.{Dep};
 ghost use Rattle.gomp_events.specs.declared.event.Event.{Event};
 ghost use Rattle.gomp_events.specs.declared.event.Event.TheVariants.{Create, Done, Discard};
-ghost use Rattle.gomp_events.specs.Tasks.{same_task, contains, tasks_created, all_complete};
+ghost use Rattle.gomp_events.specs.Tasks.{same_task, tasks_created, all_complete};
 ghost use Rattle.gomp_events.specs.Depends.{task_items, child_waits, is_free};
 ghost use Rattle.gomp_lines.specs.declared.classes.Class.{Class};
 ghost use Rattle.gomp_lines.specs.Classes.{class_at};

@@ -1,10 +1,10 @@
 //! The lines of a team's tasks.
 
-ghost use Rattle.std.specs.Prelude.{◌≡◌, ◌<◌, ◌≤◌, ◌+◌, ◌∷◌, ◌==◌, ◌&&◌, ◌||◌, not, ℕ, List, [], true, false, Option, Some, None, IsOk, OnOk, OnErr, IfSome, IsSome, IsTrue, is_some, ◌↔◌, length};
+ghost use Rattle.std.specs.Prelude.{◌≡◌, ◌<◌, ◌≤◌, ◌==◌, ◌&&◌, ◌||◌, not, ℕ, List, [], true, false, Option, Some, None, OnOk, IfSome, IsSome, is_some, length};
 ghost use Rattle.gomp_types.specs.declared.task.Task.{Task};
 ghost use Rattle.gomp_lines.specs.declared.classes.Class.{Class};
-ghost use Rattle.gomp_lines.specs.Lines.{Entry, without, is_in, waits_for_none, is_free_in};
-ghost use Rattle.gomp_lines.specs.Queues.{is_held_back, is_unblocked, LineQueues, StandsFor, FirstWaits, SameTasks, is_task};
+ghost use Rattle.gomp_lines.specs.Lines.{Entry, without, is_in};
+ghost use Rattle.gomp_lines.specs.Queues.{is_held_back, is_unblocked, LineQueues, StandsFor, FirstWaits, is_task};
 ghost use Rattle.gomp_depend.specs.Tables.{entry_at, line_at, is_key, HasRoomAt, Joins, StillStands};
 
 use crate::keys::LineKey;

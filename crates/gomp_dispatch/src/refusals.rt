@@ -5,7 +5,7 @@ ghost use Rattle.std.specs.Prelude.{◌≡◌, ◌<◌, true, false, Some, None,
 ghost use Rattle.std.specs.Result.{result_err, result_map_both};
 ghost use Rattle.gomp_types.specs.declared.call.Server.TheVariants.{Shares as OfShares, Team as Together};
 ghost use Rattle.gomp_types.specs.Servers.{served_by};
-ghost use Rattle.gomp_types.specs.Tests.{outcome, first_holding};
+ghost use Rattle.gomp_types.specs.Tests.{outcome};
 ghost use Rattle.gomp_types.specs.declared.limits.Limits.{Limits};
 ghost use Rattle.gomp_events.specs.Tags.{tag_differs, tag_with};
 ghost use Rattle.gomp_events.specs.Events.{shares_entered, barriers_passed, tag_at};
@@ -13,7 +13,6 @@ ghost use Rattle.gomp_types.specs.Least.{lesser, least};
 ghost use Rattle.gomp_types.specs.Limits.{shown_number};
 ghost use Rattle.gomp_shares.specs.Calls.{EachStands};
 ghost use Rattle.gomp_shares.specs.Starts.{compared_share};
-ghost use Rattle.gomp_shares.specs.Cancels.{cancel_place_tests};
 ghost use Rattle.gomp_shares.specs.OrderedParts.{part_tests, part_end_tests};
 ghost use Rattle.gomp_ordered.specs.Iterations.{HasShape};
 ghost use Rattle.gomp_barrier.specs.Stands.{barrier_members};
@@ -21,7 +20,7 @@ ghost use Rattle.gomp_model.specs.Row.{drain_tests, place_tests};
 ghost use Rattle.gomp_model.specs.Arrivals.{outside_tests, compared_arrival};
 ghost use Rattle.gomp_model.specs.Calls.{row_of};
 ghost use Rattle.gomp_dispatch.specs.Admission.{ByPlaceLeaving, EachPast, EachTested, WasPlaced};
-ghost use Rattle.gomp_dispatch.specs.Answers.{BothStand, StartsShare, ByPlace, PlaceDecides, IsDrained, compared_start, later_tests};
+ghost use Rattle.gomp_dispatch.specs.Answers.{BothStand, StartsShare, PlaceDecides, IsDrained, compared_start, later_tests};
 ghost use Rattle.gomp_types.specs.declared.refusal.Place.TheVariants.{Share};
 
 use crate::leaving::Leaving;

@@ -19,7 +19,7 @@ ghost use Rattle.gomp_model.specs.Calls.{row_of};
 ghost use Rattle.gomp_board.specs.declared.op.Op.TheVariants.{Put, Got};
 ghost use Rattle.gomp_board.specs.Boards.{Stands as BoardStands, IsOpAdmittedOnce, Performs, members_of};
 ghost use Rattle.gomp_dispatch.specs.Answers.{PlaceAdmits, IsDrained, StartsShare, PutsInside};
-ghost use Rattle.gomp_dispatch.specs.Serves.{SharesServe, SharesStand, GivesShareEvents, NotesWords, cut_reply, in_team};
+ghost use Rattle.gomp_dispatch.specs.Serves.{SharesServe, GivesShareEvents, NotesWords, cut_reply, in_team};
 
 use gomp_board::{Board, Op};
 use gomp_shares::Shares;

@@ -1,5 +1,5 @@
 -- What breaks a team, and what a broken team refuses, of every member, place and cause.
-use Rattle.std.proofs.Common.{◌≡◌, ℕ, List, [], ◌∷◌, true, Some, None, refl, false, Option}
+use Rattle.std.proofs.Common.{◌≡◌, ℕ, [], ◌∷◌, true, Some, None, refl, false, Option}
 use Rattle.gomp_types.specs.declared.refusal.Clash.{Clash}
 use Rattle.gomp_types.specs.declared.refusal.Place.{Place}
 use Rattle.gomp_types.specs.declared.refusal.Refusal.{Refusal}

@@ -1,7 +1,7 @@
 //! What a member has for the regions that it forks: a part of each of the book's ledgers.
 
 ghost use Rattle.std.specs.Prelude.{◌≡◌, ◌<◌};
-ghost use Rattle.gomp_team_book.specs.Parts.{BookPartView, merged_book_part, new_book_part};
+ghost use Rattle.gomp_team_book.specs.Parts.{merged_book_part, new_book_part};
 ghost use Rattle.gomp_team_region.specs.Regions.{GivesParts};
 ghost use Rattle.gomp_fork.specs.Counts.{both_counted, counted_on, nothing_counted};
 

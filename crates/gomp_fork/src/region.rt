@@ -1,6 +1,6 @@
 //! A region: a team whose members run their programs on the threads of a crew.
 
-ghost use Rattle.std.specs.Prelude.{◌≡◌, ◌+◌, ◌<◌, ◌≤◌, [], Some, IsErr, IfOk, IfErr, OnErr, OnOk, length, map, vec_len, vec_capacity};
+ghost use Rattle.std.specs.Prelude.{◌≡◌, ◌+◌, ◌-◌, ◌<◌, ◌≤◌, [], Some, IsErr, IfOk, IfErr, OnErr, OnOk, length, map, max, vec_len, vec_capacity};
 ghost use Rattle.std.specs.Arc.{arc_value};
 ghost use Rattle.gomp_types.specs.Limits.{IsTeamSize};
 ghost use Rattle.gomp_types.specs.declared.limits.TheConstants.{MAX_MEMBERS};
@@ -76,6 +76,7 @@ where
     ensures region { LeavesAll P.Program T.Tool K.forks
         (team_of ground.terms, forked.progs.items, forked.tools.items)
         (counted_in share.old, counted_in share.new) result.result }
+    ensures threads { crew.new ≤ max crew.old (vec_len forked.progs - 1) }
     ensures held { share.new.held.parts ≡ share.old.held.parts }
     ensures freed { share.new.freed.parts ≡ share.old.freed.parts }
     ensures ledger { ComesBack L.parts result.ledger }

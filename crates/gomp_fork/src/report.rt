@@ -1,6 +1,6 @@
 //! What comes of a region.
 
-ghost use Rattle.std.specs.Prelude.{◌≡◌, Some};
+ghost use Rattle.std.specs.Prelude.{Some};
 ghost use Rattle.gomp_fork.specs.Reports.{refusal_text};
 
 use gomp_events::Event;

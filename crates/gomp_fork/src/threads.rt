@@ -3,7 +3,7 @@
 //! What does a job is a value that serves it. So the closures that a crew is given speak of any job and outcome, and not of a member
 //! with all that it has.
 
-ghost use Rattle.std.specs.Prelude.{◌≡◌, ◌+◌, ◌≤◌, [], OnOk, length, max, vec_len, vec_capacity};
+ghost use Rattle.std.specs.Prelude.{◌≡◌, ◌+◌, ◌≤◌, [], OnOk, max, vec_len, vec_capacity};
 ghost use Rattle.std.specs.Arc.{arc_value};
 ghost use Rattle.gomp_crew.specs.Outcomes.{EachKept};
 ghost use Rattle.gomp_course.specs.Forkers.{KeepsVariables};
@@ -80,6 +80,7 @@ where
     R: Host,
     requires able { S.able (arc_value server.now) }
     ensures ok { OnOk result (crew.new ≡ max crew.old size) }
+    ensures most { crew.new ≤ max crew.old size }
     ensures stay { crew.old ≤ crew.new }
 {
     let theirs = Arc::try_clone(server)?;

@@ -1,7 +1,6 @@
 //! What is kept of a group, of a task and of a member's implicit task.
 
-ghost use Rattle.std.specs.Prelude.{◌≡◌, ◌<◌, ◌≤◌, ◌+◌, ◌-◌, ◌^◌, ℕ, List, length, if◌then◌else◌, OnOk, OnErr, IsOk};
-ghost use Rattle.std.specs.Vec.{vec_len, vec_capacity};
+ghost use Rattle.std.specs.Prelude.{◌≡◌, ◌<◌, ◌≤◌, ◌+◌, ◌-◌, ◌^◌, ℕ, List, length, if◌then◌else◌};
 ghost use Rattle.gomp_events.specs.Tasks.{contains};
 ghost use Rattle.gomp_rows.specs.Rows.{HasRow, with_row};
 ghost use Rattle.gomp_groups.specs.Rows.{task_at, seat_at, pending_at, IsSeatedIn, IsChain, own_group, some_marked, CountsOneMore, IsNested, with_seat, members_with_seat, is_over as row_is_over, needed_row, ended_row, one_child_more, after_child, members_after_child};

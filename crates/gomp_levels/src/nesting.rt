@@ -1,6 +1,6 @@
 //! An outermost region, within which three levels of others are served: a function for each level.
 
-ghost use Rattle.std.specs.Prelude.{◌≡◌, ◌+◌, ◌<◌, ◌≤◌, vec_len};
+ghost use Rattle.std.specs.Prelude.{◌≡◌, ◌+◌, ◌-◌, ◌<◌, ◌≤◌, max, vec_len};
 ghost use Rattle.gomp_types.specs.Limits.{IsTeamSize, standard};
 ghost use Rattle.gomp_types.specs.declared.limits.TheConstants.{MAX_MEMBERS};
 ghost use Rattle.gomp_fork.specs.declared.inner.TheConstants.{REGION_PARTS};
@@ -82,6 +82,7 @@ where
     ensures region { LeavesOutermost P.Program T.Tool
         (team_of ground.terms, forked.progs.items, forked.tools.items)
         (counted_in opened.old.share, counted_in opened.new.share) result.result }
+    ensures members { crew.new ≤ max crew.old (vec_len forked.progs - 1) }
     ensures held { opened.new.share.held.parts ≡ opened.old.share.held.parts }
     ensures freed { opened.new.share.freed.parts ≡ opened.old.share.freed.parts }
     ensures ledger { ComesBack L.parts result.ledger }
@@ -147,6 +148,7 @@ where
     requires events { MAX_MEMBERS < L.parts }
     requires held { REGION_PARTS < share.old.held.parts }
     requires freed { REGION_PARTS < share.old.freed.parts }
+    ensures members { crew.new ≤ max crew.old (vec_len forked.progs - 1) }
     ensures ledger { ComesBack L.parts result.ledger }
     ensures region { LeavesOutermost P.Program T.Tool
         (team_of terms, forked.progs.items, forked.tools.items)

@@ -2,7 +2,7 @@
 
 ghost use Rattle.std.specs.Prelude.{◌≡◌, ◌<◌, ◌≤◌, ◌+◌, ◌∷◌, ◌==◌, ◌&&◌, ◌||◌, not, ℕ, List, [], true, false, Option, Some, None, IsOk, OnOk, OnErr, IfSome, IsSome, IsTrue, ◌↔◌, length};
 ghost use Rattle.gomp_lines.specs.declared.classes.Class.{Class};
-ghost use Rattle.gomp_lines.specs.Lines.{Entry, without, is_in, waits_for_none, is_free_in};
+ghost use Rattle.gomp_lines.specs.Lines.{Entry, without, is_in, waits_for_none};
 ghost use Rattle.gomp_lines.specs.Queues.{LineView, is_held_back, is_unblocked, LineQueues, StandsFor, FirstWaits, SameTasks, Rise, first_may_go, from_first_open, is_task, queue_room};
 ghost use Rattle.gomp_lines.specs.declared.lines.Waiting.{Waiting};
 ghost use Rattle.std.specs.List.{HoldsAt};

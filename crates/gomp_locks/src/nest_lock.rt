@@ -8,7 +8,7 @@ ghost use Rattle.std.specs.Option.{option_flatten};
 ghost use Rattle.gomp_types.specs.declared.lock.TheConstants.{MAX_COUNT};
 ghost use Rattle.gomp_types.specs.Least.{Answers, least};
 ghost use Rattle.gomp_types.specs.declared.lock.LockKind.TheVariants.{Nest};
-ghost use Rattle.gomp_locks.specs.Book.{lock_at, held_times, held_by};
+ghost use Rattle.gomp_locks.specs.Book.{lock_at, held_by};
 ghost use Rattle.gomp_locks.specs.Locks.{nest_tests, times_held, SetsNest, WaitsNest, after_set_nest, TestsNest, after_test_nest, unset_tests, UnsetsNest, after_unset_nest};
 
 use crate::book::LockBook;

@@ -1,14 +1,14 @@
 //! What a member keeps of itself.
 
 ghost use Rattle.std.specs.Prelude.{◌≡◌, true, nat_lt, IsOk, IfOk, option_copied, Some, None};
-ghost use Rattle.std.specs.Prelude.{ℕ, Bool, ◌∷◌, ◌||◌};
+ghost use Rattle.std.specs.Prelude.{◌∷◌, ◌||◌};
 ghost use Rattle.gomp_types.specs.declared.call.Call.TheVariants.{Resume};
 ghost use Rattle.gomp_types.specs.declared.reply.Reply.TheVariants.{Run, Wait, TaskDone};
 ghost use Rattle.gomp_model.specs.Calls.{row_of};
 ghost use Rattle.gomp_model.specs.Team.{waits_after};
-ghost use Rattle.gomp_dispatch.specs.Leaves.{leaving_after, named_by};
+ghost use Rattle.gomp_dispatch.specs.Leaves.{named_by};
 ghost use Rattle.gomp_member.specs.Rooms.{StartsTask};
-ghost use Rattle.gomp_member.specs.Own.{new_member, own_task, own_owner, own_after, own_meant, is_next_reply, without_first, names_after, names_share, leaves_share_after, passes_end, left_after, with_waits, with_tasks, with_open};
+ghost use Rattle.gomp_member.specs.Own.{new_member, own_task, own_owner, own_after, is_next_reply, without_first, names_after, names_share, leaves_share_after, passes_end, left_after, with_waits, with_tasks, with_open};
 
 use gomp_dispatch::Leaving;
 use gomp_growth::reserve_one;

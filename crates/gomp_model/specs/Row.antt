@@ -8,13 +8,11 @@ use Rattle.gomp_events.specs.declared.seen.Seen.{Seen}
 use Rattle.gomp_types.specs.declared.shape.Shape.{Shape}
 use Rattle.gomp_types.specs.declared.refusal.Place.{Place}
 use Rattle.gomp_types.specs.declared.refusal.Place.TheVariants.{Barrier as AtBarrier}
-use Rattle.gomp_types.specs.declared.refusal.Refusal.{Refusal}
-use Rattle.gomp_types.specs.declared.refusal.Refusal.TheVariants.{Leaving, Mismatch, NoMemory}
+use Rattle.gomp_types.specs.declared.refusal.Refusal.TheVariants.{Leaving, NoMemory}
 use Rattle.gomp_types.specs.declared.reply.Reply.{Reply}
 use Rattle.gomp_types.specs.declared.reply.Reply.TheVariants.{Finished, Wait, Run, Refused}
 use Rattle.gomp_events.specs.declared.event.Arrival.{Arrival}
 use Rattle.gomp_events.specs.declared.event.Event.{Event}
-use Rattle.gomp_events.specs.declared.event.Event.TheVariants.{Break}
 use Rattle.gomp_types.specs.declared.task.TaskDesc.{TaskDesc}
 use Rattle.gomp_types.specs.Tests.{Test}
 use Rattle.gomp_types.specs.Limits.{shown_number}

@@ -2,7 +2,7 @@
 
 ghost use Rattle.std.specs.Prelude.{◌≡◌, ◌≢◌, ◌+◌, ◌<◌, ◌≤◌, ◌^◌, IfSome, IsNone, OnSome};
 ghost use Rattle.std.specs.Borrow.{sem};
-ghost use Rattle.gomp_team_book.specs.Parts.{BookPartView, new_book_part};
+ghost use Rattle.gomp_team_book.specs.Parts.{new_book_part};
 ghost use Rattle.gomp_team_region.specs.Regions.{GivesParts};
 ghost use Rattle.gomp_fork.specs.Counts.{both_counted, counted_on};
 

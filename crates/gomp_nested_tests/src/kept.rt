@@ -1,6 +1,6 @@
 //! A runtime that keeps its threads.
 
-ghost use Rattle.std.specs.Prelude.{◌≡◌, ◌≤◌, ◌<◌};
+ghost use Rattle.std.specs.Prelude.{◌≡◌, ◌<◌};
 ghost use Rattle.gomp_nested.specs.Ledgers.{IsLedger};
 
 use crate::checks::{AMPLE, report_of, same};

@@ -1,6 +1,6 @@
 //! The sections of a sections construct: the blocks that stand directly in it.
 
-ghost use Rattle.std.specs.Prelude.{◌≡◌, ◌+◌, ◌-◌, ◌^◌, ◌<◌, ◌≤◌, length, drop, min, IfSome};
+ghost use Rattle.std.specs.Prelude.{◌≡◌, ◌+◌, ◌-◌, ◌^◌, ◌<◌, length, drop, min};
 ghost use Rattle.gomp_program.specs.Places.{block_line, blocks_inside};
 
 use gomp_region::{Nesting, Script, ScriptLine};

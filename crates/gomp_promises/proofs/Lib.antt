@@ -10,6 +10,7 @@ pub mod EnvironmentReadings
 pub mod ForkReadings
 pub mod LawRefutations
 pub mod LeadReadings
+pub mod MemberReadings
 pub mod MemoryReadings
 pub mod NameReadings
 pub mod NestedReadings

@@ -1,6 +1,6 @@
 //! What the tasks of a team are asked.
 
-ghost use Rattle.std.specs.Prelude.{◌≡◌, ◌<◌, ◌≤◌, ℕ, List, ◌∷◌, None, Some, IfSome};
+ghost use Rattle.std.specs.Prelude.{◌≡◌, ◌<◌, ◌≤◌, List, ◌∷◌, None, Some, IfSome};
 ghost use Rattle.gomp_events.specs.declared.event.Event.{Event};
 ghost use Rattle.gomp_events.specs.declared.event.Event.TheVariants.{Done};
 ghost use Rattle.gomp_events.specs.Tasks.{executed_task, epoch, is_odd, is_undeferred};

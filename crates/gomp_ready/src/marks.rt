@@ -1,6 +1,6 @@
 //! How far each member has looked through the list in vain.
 
-ghost use Rattle.std.specs.Prelude.{◌≡◌, ◌≢◌, ◌≤◌, ◌<◌, ◌-◌, ◌^◌, ℕ, Some, None, IfOk, true, false, length, slice_index_or, slice_set, ◌⊎◌, map, replicate};
+ghost use Rattle.std.specs.Prelude.{◌≡◌, ◌≢◌, ◌≤◌, ◌<◌, ◌-◌, ◌^◌, ℕ, Some, None, IfOk, false, length, slice_index_or, slice_set, ◌⊎◌, map, replicate};
 ghost use Rattle.gomp_types.specs.declared.limits.TheConstants.{MAX_TASK_DEPTH};
 ghost use Rattle.gomp_ready.specs.Marks.{lowered, mark_at, without};
 
@@ -116,18 +116,18 @@ impl Marks {
         }
     }
 
-    /// Sets the mark of a member at a level, if there is such a one.
-    pub(crate) fn set(&mut self, member: u16, level: u8, mark: usize)
+    /// Sets the mark of a member at a level, if there is such a one: it has passed so many tasks there.
+    pub(crate) fn set(&mut self, member: u16, level: u8, passed: usize)
         requires member { member < length self.old }
-        requires few { mark < 2 ^ 63 }
+        requires few { passed < 2 ^ 63 }
         ensures members { length self.new ≡ length self.old }
-        ensures mark { level ≤ MAX_TASK_DEPTH → mark_at member level self.new ≡ mark }
+        ensures mark { level ≤ MAX_TASK_DEPTH → mark_at member level self.new ≡ passed }
         ensures past { MAX_TASK_DEPTH < level →
             (mark_at member level self.old ≡ 0) × (mark_at member level self.new ≡ 0) }
         ensures others { (m l : ℕ) → (m ≢ member) ⊎ (l ≢ level) →
             mark_at m l self.new ≡ mark_at m l self.old }
     {
-        self.members[member as usize].set(level, self.gone + mark);
+        self.members[member as usize].set(level, self.gone + passed);
     }
 
     /// Lowers all marks by one if a task has gone out of the list, and sets the mark of the member at its

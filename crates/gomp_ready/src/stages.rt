@@ -3,7 +3,7 @@
 
 ghost use Rattle.std.specs.Prelude.{◌≡◌, ◌≤◌, ◌<◌, ◌+◌, ◌⊎◌, ℕ, true, false, [], ◌++◌, ◌^◌, Bool, None, Some, length, take, slice_range, filter, IfSome};
 ghost use Rattle.std.specs.List.{concat, remove, HoldsAt};
-ghost use Rattle.std.specs.VecDeque.{deque_len, deque_capacity};
+ghost use Rattle.std.specs.VecDeque.{deque_capacity};
 ghost use Rattle.gomp_events.specs.Tasks.{contains};
 ghost use Rattle.gomp_ready.specs.Marks.{lowered};
 ghost use Rattle.gomp_ready.specs.Ready.{in_order, with_task, with_taken, AnswersBy, AreAmong, IsFirstBy};

@@ -1,5 +1,5 @@
 -- Lines that nest have their ends, each behind its beginning.
-use Rattle.std.proofs.Common.{◌≡◌, ℕ, ◌+◌, ◌<◌, Bool, false, List, [], ◌∷◌, ◌++◌, length, refl, ap, subst, ◌∙◌, sym, append_assoc, length-append, get_or, zero, suc, arith}
+use Rattle.std.proofs.Common.{◌≡◌, ℕ, ◌+◌, ◌<◌, Bool, false, List, [], ◌∷◌, ◌++◌, length, refl, ap, subst, sym, append_assoc, length-append, get_or, zero, suc, arith}
 use Rattle.std.proofs.Math.Seq.{get_or-append_seam}
 use Rattle.std.proofs.lemmas.List.{append-nil}
 use Rattle.gomp_region.specs.declared.script.ScriptLine.{ScriptLine}

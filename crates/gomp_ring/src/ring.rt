@@ -1,6 +1,6 @@
 //! The ring of a team: its slots, on which the seats of its members are.
 
-ghost use Rattle.std.specs.Prelude.{◌≡◌, IfOk};
+ghost use Rattle.std.specs.Prelude.{IfOk};
 ghost use Rattle.gomp_types.specs.Limits.{IsTeamSize};
 ghost use Rattle.gomp_ring.specs.RingSeats.{IsNewRing};
 

@@ -3,13 +3,12 @@
 //! The seat of member 0 comes with the ring, and those of the others are split from it. A seat goes to its member's thread; no
 //! call of it waits, takes memory or asks another seat.
 
-ghost use Rattle.std.specs.Prelude.{◌≡◌, ◌<◌, [], true, if◌then◌else◌, IfOk, ◌&&◌, not, is_some};
+ghost use Rattle.std.specs.Prelude.{◌≡◌, ◌<◌, [], true, if◌then◌else◌, ◌&&◌, not, is_some};
 ghost use Rattle.gomp_events.specs.declared.event.Event.TheVariants.{End};
-ghost use Rattle.gomp_types.specs.Limits.{IsTeamSize};
 ghost use Rattle.gomp_types.specs.Shapes.{is_static, is_loop};
 ghost use Rattle.gomp_events.specs.Events.{share_number};
 ghost use Rattle.gomp_shares.specs.Calls.{CanOpen, CanClaim, CanLeave};
-ghost use Rattle.gomp_ring.specs.RingSeats.{IsOnRing, IsFresh, fresh_view, IsNewRing, SeatActs, SeatClaims, SeatClaimsNext, may_claim, may_enter, SeatOpens, SeatSplits, IsLawfulSeat, piece_in, static_in, IsGivenUp};
+ghost use Rattle.gomp_ring.specs.RingSeats.{IsOnRing, IsFresh, fresh_view, SeatActs, SeatClaims, SeatClaimsNext, may_claim, may_enter, SeatOpens, SeatSplits, IsLawfulSeat, piece_in, static_in, IsGivenUp};
 
 use crate::current::Current;
 use crate::piece::{Piece, finish_piece, keep_plan, look_up_piece};

@@ -12,7 +12,7 @@ use Rattle.gomp_runtime.specs.Regions.{EndIsTold, ForksRegion, IsReturned, RunsR
 use Rattle.gomp_service.specs.declared.answer.Answer.{Answer}
 use Rattle.gomp_course.specs.declared.no_tool.NoTool.{NoTool}
 use Rattle.gomp_run.specs.Asks.{no_tool, script_program}
-use Rattle.gomp_run.specs.Output.{HasReported, IsAnswer, RunsScript, program_count, report_text, taken_sum}
+use Rattle.gomp_run.specs.Output.{HasReported, IsAnswer, RunsScript, fault_status, program_count, refusal_line, report_text, taken_sum}
 
 -- the numbers of a report
 abbrev pub lines_of_report : Report ProgramView NoTool → List ℕ
@@ -58,6 +58,21 @@ pub answers_report : {E : Type 0} (result : Result Answer E) (icv : Variables) (
     → IfOk result (λ answer. RunsScript icv script (string_bytes answer.text) answer.code)
 answers_report (Ok answer) icv script lines text code has = inl (has (string_bytes answer.text) text, code)
 answers_report (Err lack) icv script lines text code has = text
+
+-- likewise one with the refusal of the fault that its region has left
+pub answers_fault : {E : Type 0} (result : Result Answer E) (icv : Variables) (script : Script) (count : ℕ) (progs : List ProgramView) (tools : List NoTool) (fault : RegionFault ProgramView NoTool)
+    → count ≡ program_count icv script.team → progs ≡ programs_from script 0 0 count
+    → ForksRegion script_program no_tool (record { icv = icv; regions = 0 }) progs tools (Err fault)
+    → IfOk result (λ answer. string_bytes answer.text ≡ refusal_line fault.refusal) → IfOk result (λ answer. answer.code ≡ fault_status fault.refusal)
+    → IfOk result (λ answer. RunsScript icv script (string_bytes answer.text) answer.code)
+answers_fault (Ok answer) icv script count progs tools fault counted are forked text code = inr (record {
+  tools = tools;
+  fault = fault;
+  forked = rw (are, counted) at forked;
+  text_is = text;
+  code_is = code;
+})
+answers_fault (Err lack) icv script count progs tools fault counted are forked text code = text
 
 -- so is it to the text that the script is
 pub answers_text : {E : Type 0} (result : Result Answer E) (icv : Variables) (text : List ℕ) (script : Script) → script_of text ≡ Ok (script.team, script.lines.items, script.ends.items)

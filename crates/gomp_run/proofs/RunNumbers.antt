@@ -14,7 +14,7 @@ two_statuses false = omega arith
 
 region_number : (icv : Variables) (script : Script) (text : List ℕ) (code : ℕ) → RunsScript icv script text code → code ≤ 3
 region_number icv script text code (inl reported) = let is = reported.1 in omega (arith, is)
-region_number icv script text code (inr refused) = let is = refused.code_is in let small = two_statuses (is_no_memory refused.refusal) in omega (arith, is, small)
+region_number icv script text code (inr refused) = let is = refused.code_is in let small = two_statuses (is_no_memory refused.fault.refusal) in omega (arith, is, small)
 
 -- of a script, or a text that is none
 pub run_number : (icv : Variables) (read : Result (AskedSize × List ScriptLine × List ℕ) BadScript) (text : List ℕ) (code : ℕ) → AnswerTo icv read text code → code ≤ 3

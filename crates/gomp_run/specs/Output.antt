@@ -14,9 +14,10 @@ use Rattle.gomp_region.specs.ScriptText.{script_of}
 use Rattle.gomp_program.specs.Programs.{ProgramView, programs_from, totals_of}
 use Rattle.gomp_program.specs.Totals.{joined_total}
 use Rattle.gomp_fork.specs.declared.report.Report.{Report}
+use Rattle.gomp_fork.specs.declared.report.RegionFault.{RegionFault}
 use Rattle.gomp_fork.specs.declared.report.RegionRefusal.{RegionRefusal}
 use Rattle.gomp_fork.specs.declared.report.RegionRefusal.TheVariants.{Refused}
-use Rattle.gomp_runtime.specs.Regions.{size_for, team_for}
+use Rattle.gomp_runtime.specs.Regions.{ForksRegion, size_for, team_for}
 use Rattle.gomp_fork.specs.Counts.{HoldCounts}
 use Rattle.gomp_fork.specs.Reports.{IsReport, refusal_text}
 use Rattle.gomp_levels.specs.Levels.{Forks}
@@ -68,16 +69,19 @@ is_no_memory refusal = false
 abbrev pub fault_status : RegionRefusal → ℕ
 fault_status refusal = if is_no_memory refusal then 3 else 2
 
-pub record IsRefusedBy (text : List ℕ) (code : ℕ) : Type 0 where
-  pub refusal : RegionRefusal
-  pub text_is : text ≡ refusal_line refusal
-  pub code_is : code ≡ fault_status refusal
+-- a refusal has ended the region of a script, and what is printed is that of the fault which it has left
+pub record HasFaulted (icv : Variables) (script : Script) (text : List ℕ) (code : ℕ) : Type 0 where
+  pub tools : List NoTool
+  pub fault : RegionFault ProgramView NoTool
+  pub forked : ForksRegion script_program no_tool (record { icv = icv; regions = 0 }) (programs_from script 0 0 (program_count icv script.team)) tools (Err fault)
+  pub text_is : text ≡ refusal_line fault.refusal
+  pub code_is : code ≡ fault_status fault.refusal
 
 -- What is printed of a text
 
 -- of a script: what its region comes to, or by which refusal it has ended
 abbrev pub RunsScript : Variables → Script → List ℕ → ℕ → Type 0
-RunsScript icv script text code = (HasReported icv script text × (code ≡ 0)) ⊎ IsRefusedBy text code
+RunsScript icv script text code = (HasReported icv script text × (code ≡ 0)) ⊎ HasFaulted icv script text code
 
 -- of the script that was read
 pub record RunsFound (icv : Variables) (found : AskedSize × List ScriptLine × List ℕ) (text : List ℕ) (code : ℕ) : Type 0 where

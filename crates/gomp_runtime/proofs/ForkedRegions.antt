@@ -55,12 +55,17 @@ module _ {P T : Type 0} (program : ProgramGhosts P) (tool : ToolGhosts T) where
   size_told n (Err fault) (Ok told) ends size = absurd ends
   size_told n (Err fault) (Err told) ends size = tt
 
+  -- a region has the number that the runtime gives next
+  pub told_by_number : (runtime : RuntimeView) (number : ℕ) (progs : List P) (tools : List T) (result : Result (Report P T) (RegionFault P T))
+      → number ≡ runtime.regions → RunsTold program tool number runtime.icv progs tools result → RunsTold program tool runtime.regions runtime.icv progs tools result
+  told_by_number runtime number progs tools result number_is runs = subst (λ k. RunsTold program tool k runtime.icv progs tools result) number_is runs
+
   -- a region that is not refused
   pub region_forked : (runtime : RuntimeView) (number : ℕ) (progs : List P) (tools : List T) (result : Result (Report P T) (RegionFault P T))
       → number ≡ runtime.regions → fork_refusal runtime (length progs) (length tools) ≡ None → 0 < length progs
       → RunsTold program tool number runtime.icv progs tools result → ForksRegion program tool runtime progs tools result
   region_forked runtime number progs tools result number_is none some runs =
-      let here : RunsTold program tool runtime.regions runtime.icv progs tools result = subst (λ k. RunsTold program tool k runtime.icv progs tools result) number_is runs in
+      let here = told_by_number runtime number progs tools result number_is runs in
       record {
         refused = subst (λ why. RefusesFork why progs tools result) (sym none) tt;
         region = inr here;

@@ -1,8 +1,8 @@
 //! A runtime that keeps its threads between its regions.
 
-ghost use Rattle.std.specs.Prelude.{◌≡◌, ◌≤◌, IfOk, length, vec_len};
+ghost use Rattle.std.specs.Prelude.{◌≡◌, ◌≤◌, IfOk, None, length, vec_len};
 ghost use Rattle.gomp_types.specs.Limits.{IsTeamSize, standard};
-ghost use Rattle.gomp_runtime.specs.Regions.{ForksRegion, regions_after};
+ghost use Rattle.gomp_runtime.specs.Regions.{ForksRegion, RunsForked, fork_refusal, regions_after};
 ghost use Rattle.gomp_levels.specs.Levels.{LeavesForked};
 ghost use Rattle.gomp_fork.specs.Teams.{team_of};
 ghost use Rattle.gomp_nested.specs.Ledgers.{IsLedger};
@@ -107,6 +107,9 @@ where
             regions_after self.old (length progs.items) (length tools.items) }
         ensures region { ForksRegion P.Program T.Tool
             self.old progs.items tools.items result }
+        ensures told { fork_refusal self.old (length progs.items) (length tools.items) ≡ None →
+            RunsForked P.Program T.Tool self.old.regions self.old.icv
+            (progs.items, tools.items) result }
     {
         let forked = Forked { progs, tools };
         let number = match self.numbers.take_number(&forked) {

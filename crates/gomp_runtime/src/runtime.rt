@@ -1,9 +1,8 @@
 //! A runtime, and its parallel regions.
 
-ghost use Rattle.std.specs.Prelude.{◌≡◌, ◌+◌, ◌<◌, ◌≤◌, IfOk, IfErr, Some, None, length, vec_len};
+ghost use Rattle.std.specs.Prelude.{◌≡◌, ◌+◌, ◌<◌, ◌≤◌, None, Some, length, vec_len};
 ghost use Rattle.gomp_locks.specs.Order.{IsInOrder};
 ghost use Rattle.gomp_types.specs.Limits.{IsTeamSize, standard};
-ghost use Rattle.gomp_icv.specs.Teams.{child};
 ghost use Rattle.gomp_runtime.specs.Regions.{ForksRegion, RunsForked, fork_refusal, regions_after, size_for};
 ghost use Rattle.gomp_fork.specs.Teams.{team_of};
 ghost use Rattle.gomp_levels.specs.Levels.{LeavesForked};
@@ -111,6 +110,9 @@ impl Runtime {
         R: Host,
         ensures region { ForksRegion P.Program T.Tool
             self.old progs.items tools.items result }
+        ensures told { fork_refusal self.old (length progs.items) (length tools.items) ≡ None →
+            RunsForked P.Program T.Tool self.old.regions self.old.icv
+            (progs.items, tools.items) result }
         ensures regions { self.new.regions ≡
             regions_after self.old (length progs.items) (length tools.items) }
         ensures icv { self.new.icv ≡ self.old.icv }

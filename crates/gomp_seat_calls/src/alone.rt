@@ -15,7 +15,7 @@ ghost use Rattle.gomp_shares.specs.declared.admission.Construct.TheVariants.{Loo
 ghost use Rattle.gomp_team_shares.specs.declared.start.ShareStart.TheVariants.{Loop, Sections, Single};
 ghost use Rattle.gomp_ring.specs.RingSeats.{IsOnRing};
 ghost use Rattle.gomp_seat_calls.specs.Alone.{StaysOutside, IsNotStarted, admits_part, ends_alone, admits_by_turn, sections_alone, admits_start};
-ghost use Rattle.gomp_seat_calls.specs.Chunks.{reply_of_chunk};
+ghost use Rattle.gomp_seat_calls.specs.Chunks.{NoneIsZero, reply_of_chunk};
 ghost use Rattle.gomp_seat_calls.specs.Ends.{EndsAtOnce};
 ghost use Rattle.gomp_seat_calls.specs.Next.{AnswersNext, TakesPiece};
 ghost use Rattle.gomp_seat_calls.specs.Parts.{AnswersPart, AnswersPartEnd};
@@ -45,6 +45,7 @@ pub fn start_loop_alone(
     requires ring { IsOnRing ring.now seat.old }
     ensures starts { IfSome result (λ chunk. StartsBySeat (Loop desc.now) seat.old
         (reply_of_chunk chunk.first chunk.count) seat.new) }
+    ensures zero { IfSome result (λ chunk. NoneIsZero chunk.first chunk.count) }
     ensures inside { IfSome result (λ chunk. IsIn (shape_of desc.now) seat.new.seen) }
     ensures none { result ≡ None → seat.new ≡ seat.old }
     ensures admitted { is_some result ≡ true →
@@ -67,6 +68,7 @@ fn enter_loop_alone(ring: &Ring, seat: &mut RingSeat, shape: &Shape) -> Option<C
     requires place { CanOpen seat.old.members seat.old.member shape.now seat.old.seen }
     ensures enters { IfSome result (λ chunk. EntersAnd (TakesPiece OfLoop) shape.now seat.old
         (reply_of_chunk chunk.first chunk.count) seat.new) }
+    ensures zero { IfSome result (λ chunk. NoneIsZero chunk.first chunk.count) }
     ensures inside { IfSome result (λ chunk. IsIn shape.now seat.new.seen) }
     ensures none { result ≡ None → seat.new ≡ seat.old }
     ensures why { result ≡ None → StaysOutside OfLoop shape.now seat.old seat.new }
@@ -86,6 +88,7 @@ fn take_chunk_alone(ring: &Ring, seat: &mut RingSeat, shape: &Shape) -> Chunk
     requires place { CanClaim seat.old.members seat.old.member seat.old.seen }
     requires inside { IsIn shape.now seat.old.seen }
     ensures takes { TakesPiece OfLoop seat.old (reply_of_chunk result.first result.count) seat.new }
+    ensures zero { NoneIsZero result.first result.count }
     ensures inside { IsIn shape.now seat.new.seen }
     ensures stays { StaysSeat seat.old seat.new }
 {
@@ -294,6 +297,7 @@ pub fn claim_ordered_chunk(ring: &Ring, seat: &mut RingSeat) -> Option<Chunk>
     requires ring { IsOnRing ring.now seat.old }
     ensures answers { IfSome result (λ chunk. AnswersNext OfLoop seat.old
         (reply_of_chunk chunk.first chunk.count) seat.new) }
+    ensures zero { IfSome result (λ chunk. NoneIsZero chunk.first chunk.count) }
     ensures none { result ≡ None → seat.new ≡ seat.old }
     ensures admitted { is_some result ≡ true → admits_by_turn seat.old.seen ≡ true }
     ensures waits { result ≡ None → admits_by_turn seat.old.seen ≡ true →

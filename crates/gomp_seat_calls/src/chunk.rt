@@ -9,7 +9,7 @@ ghost use Rattle.gomp_types.specs.Values.{IsShape};
 ghost use Rattle.gomp_loops.specs.Answers.{reply_of_piece};
 ghost use Rattle.gomp_shares.specs.declared.admission.Construct.TheVariants.{Loop};
 ghost use Rattle.gomp_ring.specs.RingSeats.{IsOnRing, piece_in};
-ghost use Rattle.gomp_seat_calls.specs.Chunks.{claims_alone, reply_of_chunk};
+ghost use Rattle.gomp_seat_calls.specs.Chunks.{NoneIsZero, claims_alone, reply_of_chunk};
 ghost use Rattle.gomp_seat_calls.specs.Next.{AnswersNext};
 ghost use Rattle.gomp_seat_calls.specs.Stays.{StaysSeat};
 
@@ -65,6 +65,7 @@ pub fn claim_chunk(ring: &Ring, seat: &mut RingSeat) -> Chunk
     requires alone { claims_alone seat.old.seen ≡ true }
     ensures answers { AnswersNext Loop seat.old
         (reply_of_chunk result.first result.count) seat.new }
+    ensures zero { NoneIsZero result.first result.count }
     ensures again { 0 < result.count → claims_alone seat.new.seen ≡ true }
     ensures stays { StaysSeat seat.old seat.new }
 {
@@ -83,6 +84,7 @@ pub(crate) fn chunk_of(shape: &Shape, piece: Piece) -> Chunk
         (λ p. (p.0 < p.1) × (p.1 ≤ shape.now.trips)) }
     ensures reply { reply_of_chunk result.first result.count
         ≡ reply_of_piece shape.now (piece_in piece.first piece.end) }
+    ensures zero { NoneIsZero result.first result.count }
     ensures some { 0 < result.count → piece.first < piece.end }
 {
     let Piece { first, end } = piece;

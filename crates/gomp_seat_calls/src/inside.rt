@@ -2,7 +2,6 @@
 //!
 //! OpenMP API 5.2, sections 11.3, 11.5, 15.10.2, 16.1 and 16.2.
 
-ghost use Rattle.std.specs.Prelude.{◌≡◌};
 ghost use Rattle.gomp_shares.specs.Admission.{all_end_tests};
 ghost use Rattle.gomp_team_shares.specs.Inside.{inside_tests};
 ghost use Rattle.gomp_ring.specs.RingSeats.{IsOnRing};

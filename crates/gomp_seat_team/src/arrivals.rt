@@ -2,9 +2,10 @@
 //!
 //! OpenMP API 5.2, sections 10.1 and 15.3.1; libgomp's `GOMP_barrier` and `GOMP_parallel_end`.
 
-ghost use Rattle.std.specs.Prelude.{◌≡◌, ◌≢◌, Some};
+ghost use Rattle.std.specs.Prelude.{◌≡◌, ◌≢◌, Some, reverse};
 ghost use Rattle.gomp_types.specs.declared.refusal.Refusal.TheVariants.{Mismatch};
 ghost use Rattle.gomp_types.specs.Least.{least};
+ghost use Rattle.gomp_board.specs.Boards.{Stands};
 ghost use Rattle.gomp_team_board.specs.Locked.{AnswersUnless, MovesCounts};
 ghost use Rattle.gomp_team_board.specs.Parts.{part_after};
 ghost use Rattle.gomp_team_calls.specs.Arrivals.{arrival_place_tests, arrival_with};
@@ -30,12 +31,14 @@ pub fn arrive<L: Ledger>(
     found: Option<Refusal>,
 ) -> BoardReply
     requires own { found ≢ Some Mismatch }
+    ensures known { Stands board.old.board (reverse board.old.board.history) }
     ensures op { result.op ≡ arrival_with kind leaving seat.now.seen.entered }
     ensures answer { AnswersUnless (arrival_refused kind leaving found seat.now.seen)
         result.op seat.now.member board.old board.new result.reply }
     ensures counts { MovesCounts result.op seat.now.member board.old board.new result.reply }
     ensures part { part.new ≡ part_after result.op result.reply part.old }
 {
+    let _ = board.history(); // for clause known
     let seen = seat.seen();
     let op = arrival(kind, leaving, seen.entered);
     let found = lesser(found, inside_refusal(&seen, kind, leaving));

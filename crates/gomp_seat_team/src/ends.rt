@@ -2,9 +2,10 @@
 //!
 //! OpenMP API 5.2, sections 11.3, 11.5 and 15.3.2; libgomp's `GOMP_loop_end`, `GOMP_sections_end` and their `_cancel` forms.
 
-ghost use Rattle.std.specs.Prelude.{◌≡◌, ◌≢◌, Some, None};
+ghost use Rattle.std.specs.Prelude.{◌≡◌, ◌≢◌, Some, None, reverse};
 ghost use Rattle.gomp_types.specs.declared.refusal.Refusal.TheVariants.{Mismatch};
 ghost use Rattle.gomp_events.specs.declared.event.Arrival.TheVariants.{ShareEnd as AtShareEnd};
+ghost use Rattle.gomp_board.specs.Boards.{Stands};
 ghost use Rattle.gomp_team_board.specs.Locked.{MovesCounts};
 ghost use Rattle.gomp_team_board.specs.Parts.{part_after};
 ghost use Rattle.gomp_team_calls.specs.Arrivals.{arrival_with};
@@ -40,6 +41,7 @@ pub fn end_share<L: Ledger>(
 ) -> BoardReply
     requires ring { IsOnRing ring.now seat.old }
     requires own { found ≢ Some Mismatch }
+    ensures known { Stands board.old.board (reverse board.old.board.history) }
     ensures op { result.op ≡ arrival_with AtShareEnd leaving seat.old.seen.entered }
     ensures ends { EndsShare (end_asked end.construct end.end_kind found) result.op
         (moved seat.old seat.new board.old board.new) result.reply }
@@ -47,6 +49,7 @@ pub fn end_share<L: Ledger>(
     ensures counts { MovesCounts result.op seat.old.member board.old board.new result.reply }
     ensures part { part.new ≡ part_after result.op result.reply part.old }
 {
+    let _ = board.history(); // for clause known
     let op = arrival(Arrival::ShareEnd, leaving, seat.entered());
     match found {
         Some(refusal) => {

@@ -2,13 +2,14 @@
 //!
 //! OpenMP API 5.2, section 5.7.2; libgomp's `GOMP_single_copy_end`.
 
-ghost use Rattle.std.specs.Prelude.{◌≡◌, ◌≢◌, Some};
+ghost use Rattle.std.specs.Prelude.{◌≡◌, ◌≢◌, Some, reverse};
 ghost use Rattle.gomp_types.specs.declared.refusal.Refusal.TheVariants.{Mismatch};
 ghost use Rattle.gomp_types.specs.declared.reply.Reply.TheVariants.{Finished};
 ghost use Rattle.gomp_types.specs.Least.{least, lesser};
 ghost use Rattle.gomp_events.specs.Events.{share_number};
 ghost use Rattle.gomp_shares.specs.Singles.{put_tests};
 ghost use Rattle.gomp_board.specs.declared.op.Op.TheVariants.{Put};
+ghost use Rattle.gomp_board.specs.Boards.{Stands};
 ghost use Rattle.gomp_team_board.specs.Locked.{AnswersUnless, MovesCounts};
 ghost use Rattle.gomp_team_board.specs.Parts.{part_after};
 ghost use Rattle.gomp_ring.specs.RingSeats.{IsOnRing};
@@ -36,6 +37,7 @@ pub fn put_words<L: Ledger>(
 ) -> BoardReply
     requires ring { IsOnRing ring.now seat.old }
     requires own { found ≢ Some Mismatch }
+    ensures known { Stands board.old.board (reverse board.old.board.history) }
     ensures op { result.op ≡ Put (share_number seat.old.seen.current) words.now }
     ensures answer { AnswersUnless (lesser found (least (put_tests seat.old.seen)))
         result.op seat.old.member board.old board.new result.reply }
@@ -45,6 +47,7 @@ pub fn put_words<L: Ledger>(
     ensures counts { MovesCounts result.op seat.old.member board.old board.new result.reply }
     ensures part { part.new ≡ part_after result.op result.reply part.old }
 {
+    let _ = board.history(); // for clause known
     let op = put(share_of(seat), words);
     let found = lesser(found, single_copy_end_refusal(seat));
     match board.step_unless(part, seat.member(), &op, found) {

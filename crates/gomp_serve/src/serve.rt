@@ -1,6 +1,6 @@
 //! What the words of the command line ask for, done.
 
-ghost use Rattle.std.specs.Prelude.{◌≡◌, [], IfErr, IfOk, OnErr, map};
+ghost use Rattle.std.specs.Prelude.{◌≡◌, IfErr, IfOk, OnErr, map};
 ghost use Rattle.gomp_command.specs.declared.command.Service.TheVariants.{Run};
 ghost use Rattle.gomp_command.specs.CommandLine.{asked_of, faults_of};
 ghost use Rattle.gomp_serve.specs.Ends.{AsksRun, AsksToRun, Ends, EndsByWord, EndsServing, ServesBy};

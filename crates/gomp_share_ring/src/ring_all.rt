@@ -34,8 +34,9 @@ pub struct RingAll {
     seats: Vec<MemberSeat>,
     /// Of each slot the last share there of which some member took a piece, by its number.
     taken: Places<u64>,
-    /// Of each slot a cursor over the pieces of its share, if that is a guided loop.
-    shared: [SharedCursor; OPEN_SHARES as usize],
+    /// Of each slot a cursor over the pieces of its share, if that is a guided loop. Eight are many, so they have a block of their own,
+    /// and a team that moves does not copy them.
+    shared: Box<[SharedCursor; OPEN_SHARES as usize]>,
 }
 
 impl Model for RingAll {
@@ -73,15 +74,9 @@ impl Shares for RingAll {
     ghost ruled = { λ shares h stands. stands.rule };
 
     fn make(alloc: Global, count: u16) -> Result<Self, AllocError> {
-        let (slots, seat) = new_table(alloc, count)?;
-        let seats = vec![in alloc; MemberSeat::new(count); count as usize]?;
-        Ok(RingAll {
-            slots,
-            seat,
-            members: count,
-            seats,
-            taken: Places::new(),
-            shared: [
+        let shared = Box::new(
+            alloc,
+            [
                 SharedCursor::new(count, &NO_SHAPE),
                 SharedCursor::new(count, &NO_SHAPE),
                 SharedCursor::new(count, &NO_SHAPE),
@@ -91,6 +86,16 @@ impl Shares for RingAll {
                 SharedCursor::new(count, &NO_SHAPE),
                 SharedCursor::new(count, &NO_SHAPE),
             ],
+        )?;
+        let seats = vec![in alloc; MemberSeat::new(count); count as usize]?;
+        let (slots, seat) = new_table(alloc, count)?;
+        Ok(RingAll {
+            slots,
+            seat,
+            members: count,
+            seats,
+            taken: Places::new(),
+            shared,
         })
     }
 

@@ -3,7 +3,7 @@ use Rattle.std.proofs.Common.{◌≡◌, ℕ, ℤ, Bool, true, false, refl, ap, 
 use Rattle.std.specs.Prelude.{nat_lt, if◌then◌else◌}
 use Rattle.gomp_types.specs.declared.call.Call.TheVariants.{LoopNext}
 use Rattle.gomp_types.specs.declared.reply.Reply.{Reply}
-use Rattle.gomp_types.specs.declared.reply.Reply.TheVariants.{Chunk, NoChunk, Wait}
+use Rattle.gomp_types.specs.declared.reply.Reply.TheVariants.{Cancelled, Chunk, NoChunk, Wait}
 use Rattle.gomp_types.proofs.Booleans.{and_left, and_right}
 use Rattle.gomp_shares.specs.declared.admission.Construct.TheVariants.{Loop}
 use Rattle.gomp_ompt.specs.declared.record.Record.{Record}
@@ -29,6 +29,10 @@ chunk_is_next first count = chunk_or_none first count (nat_lt 0 count)
 -- so no wait
 pub chunk_never_waits : (first : ℤ) (count : ℕ) → reply_of_chunk first count ≡ Wait → ⊥
 chunk_never_waits first count is = let next : true ≡ false = sym (chunk_is_next first count) ∙ ap is_next_reply is in cc
+
+-- nor that the region is cancelled
+pub chunk_never_cut : (first : ℤ) (count : ℕ) → reply_of_chunk first count ≡ Cancelled → ⊥
+chunk_never_cut first count is = let next : true ≡ false = sym (chunk_is_next first count) ∙ ap is_next_reply is in cc
 
 -- its seat may claim so
 pub seat_claims_alone : {T : Type 0} (member : MemberView T) → may_claim_alone member ≡ true → claims_alone member.seat.seen ≡ true

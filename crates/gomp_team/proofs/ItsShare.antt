@@ -25,32 +25,35 @@ use Rattle.gomp_ring.specs.RingSeats.{SeatView}
 use Rattle.gomp_seat_calls.specs.Inside.{AnswersInsideBySeat}
 use Rattle.gomp_seat_calls.specs.Starts.{StartsBySeat, awaits_payload}
 use Rattle.gomp_seat_calls.specs.Stays.{StaysSeat}
+use Rattle.gomp_team.specs.Answers.{TeamAnswers}
 use Rattle.gomp_team.specs.Moves.{events_part, holds_part, releases_part}
 use Rattle.gomp_team.specs.Members.{MemberView, AsksItsShare, Called, HasSameParts, is_given}
 use Rattle.gomp_team.specs.Seats.{MovesBy, ask_of_shares, inside_of, seat_ask, start_of}
 use Rattle.gomp_team.specs.Seats.SeatAsk.{Inside, Starts}
+use Rattle.gomp_team.proofs.AnswerLaws.{shares_answer_any}
 use Rattle.gomp_team.proofs.Meant.{call_means_itself}
 use Rattle.gomp_team.proofs.MoveLaws.{inside_call_moves_no_events, other_calls_move_no_holds, other_calls_move_no_releases}
 use Rattle.gomp_team.proofs.SeatMoves.{answered_once}
 
--- it is no resume, asks the seat so, and moves no part of a ledger
+-- it is no resume, asks the seat so, and neither board nor book, and moves no part of a ledger
 record IsOfShare (call : Call) : Type 0 where
   first : is_resume call ≡ false
+  served : served_by call ≡ Shares
   asks : (allowed : Bool) → seat_ask allowed false call ≡ ask_of_shares false None (inside_of allowed call)
   events : (reply : Reply) (part : PartView) → events_part false call reply part ≡ part
   held : (reply : Reply) (part : BookPartView) → holds_part false call reply part ≡ part
   freed : (reply : Reply) (part : BookPartView) → releases_part false call reply part ≡ part
 
 its_share : (call : Call) → AsksItsShare call → IsOfShare call
-its_share calls.LoopNext asks = record { first = refl; asks = λ allowed. refl; events = λ reply part. refl; held = λ reply part. refl; freed = λ reply part. refl }
-its_share calls.SectionsNext asks = record { first = refl; asks = λ allowed. refl; events = λ reply part. refl; held = λ reply part. refl; freed = λ reply part. refl }
-its_share calls.LoopEndNowait asks = record { first = refl; asks = λ allowed. refl; events = λ reply part. refl; held = λ reply part. refl; freed = λ reply part. refl }
-its_share calls.SectionsEndNowait asks = record { first = refl; asks = λ allowed. refl; events = λ reply part. refl; held = λ reply part. refl; freed = λ reply part. refl }
-its_share (calls.Cancel kinds.Loop clause) asks = record { first = refl; asks = λ allowed. refl; events = λ reply part. refl; held = λ reply part. refl; freed = λ reply part. refl }
-its_share (calls.Cancel kinds.Sections clause) asks = record { first = refl; asks = λ allowed. refl; events = λ reply part. refl; held = λ reply part. refl; freed = λ reply part. refl }
+its_share calls.LoopNext asks = record { first = refl; served = refl; asks = λ allowed. refl; events = λ reply part. refl; held = λ reply part. refl; freed = λ reply part. refl }
+its_share calls.SectionsNext asks = record { first = refl; served = refl; asks = λ allowed. refl; events = λ reply part. refl; held = λ reply part. refl; freed = λ reply part. refl }
+its_share calls.LoopEndNowait asks = record { first = refl; served = refl; asks = λ allowed. refl; events = λ reply part. refl; held = λ reply part. refl; freed = λ reply part. refl }
+its_share calls.SectionsEndNowait asks = record { first = refl; served = refl; asks = λ allowed. refl; events = λ reply part. refl; held = λ reply part. refl; freed = λ reply part. refl }
+its_share (calls.Cancel kinds.Loop clause) asks = record { first = refl; served = refl; asks = λ allowed. refl; events = λ reply part. refl; held = λ reply part. refl; freed = λ reply part. refl }
+its_share (calls.Cancel kinds.Sections clause) asks = record { first = refl; served = refl; asks = λ allowed. refl; events = λ reply part. refl; held = λ reply part. refl; freed = λ reply part. refl }
 its_share (calls.Cancel kind clause) asks = absurd (cc)
-its_share (calls.Point kinds.Loop) asks = record { first = refl; asks = λ allowed. refl; events = λ reply part. refl; held = λ reply part. refl; freed = λ reply part. refl }
-its_share (calls.Point kinds.Sections) asks = record { first = refl; asks = λ allowed. refl; events = λ reply part. refl; held = λ reply part. refl; freed = λ reply part. refl }
+its_share (calls.Point kinds.Loop) asks = record { first = refl; served = refl; asks = λ allowed. refl; events = λ reply part. refl; held = λ reply part. refl; freed = λ reply part. refl }
+its_share (calls.Point kinds.Sections) asks = record { first = refl; served = refl; asks = λ allowed. refl; events = λ reply part. refl; held = λ reply part. refl; freed = λ reply part. refl }
 its_share (calls.Point kind) asks = absurd (cc)
 its_share call asks = absurd asks
 
@@ -60,9 +63,10 @@ pub asked_inside : (allowed : Bool) (call : Call) (inside : InsideCall) (before 
 asked_inside allowed call inside before reply after asks is moves =
     subst (λ ask. MovesBy ask before reply after) (sym ((its_share call asks).asks allowed ∙ ap (ask_of_shares false None) is)) moves
 
--- a call that is no resume, and by this reply moves no part of a ledger
+-- a call that is no resume, asks neither board nor book, and by this reply moves no part of a ledger
 record MovesNoPart (call : Call) (reply : Reply) : Type 0 where
   first : is_resume call ≡ false
+  asks : (allowed : Bool) (own : OwnView) (seat : SeatView) → TeamAnswers allowed false own call seat reply
   events : (part : PartView) → events_part false call reply part ≡ part
   held : (part : BookPartView) → holds_part false call reply part ≡ part
   freed : (part : BookPartView) → releases_part false call reply part ≡ part
@@ -86,6 +90,7 @@ called_from gives call reply before between after of is moves stays noted told s
       freed = (same.freed ∙ ap (λ m. m.freed) is) ∙ sym (rw (of.first, means) (of.freed before.freed));
       seat = rw (of.first, means, same.seat) (answered_once false (seat_ask before.icv.cancellation false call) before.seat reply between.seat moves);
       stays = rw same.seat stays;
+      answers = rw (of.first, means) (of.asks before.icv.cancellation before.own before.seat);
       icv = same.icv ∙ ap (λ m. m.icv) is;
       ring = same.ring ∙ ap (λ m. m.ring) is;
       tool = rw (of.first, sym (ap (λ m. m.tool) is), sym own) told;
@@ -102,7 +107,7 @@ pub called_by_seat : {T : Type 0} (gives : T → Record → T → Type 0) (call 
     → Called gives call reply before after
 called_by_seat gives call reply before between after asks is moves stays noted told same =
     let of = its_share call asks in
-    called_from gives call reply before between after (record { first = of.first; events = of.events reply; held = of.held reply; freed = of.freed reply }) is moves stays noted told same
+    called_from gives call reply before between after (record { first = of.first; asks = λ allowed own seat. shares_answer_any allowed false own call seat reply of.served; events = of.events reply; held = of.held reply; freed = of.freed reply }) is moves stays noted told same
 
 -- Calls on the member's share of which it notes nothing
 
@@ -116,6 +121,7 @@ inside_moves_no_part call reply served none first =
     let other : served_by call ≢ Book = λ book. let both : ◌≡◌ {A = Server} Shares Book = sym served ∙ book in cc in
     record {
       first = first;
+      asks = λ allowed own seat. shares_answer_any allowed false own call seat reply served;
       events = λ part. inside_call_moves_no_events false call reply part served none;
       held = λ part. other_calls_move_no_holds false call reply part other;
       freed = λ part. other_calls_move_no_releases false call reply part other;
@@ -171,10 +177,10 @@ given_starts_nothing construct (Executor executes) own given free = executor_mov
 given_starts_nothing construct reply own given free = absurd (cc)
 
 start_moves_no_part : (construct : ShareStart) (reply : Reply) → is_given reply ≡ true → MovesNoPart (call_of construct) reply
-start_moves_no_part (start.Loop desc) reply given = record { first = refl; events = λ part. given_moves_no_part reply part given; held = λ part. refl; freed = λ part. refl }
-start_moves_no_part (start.Sections count end_kind) reply given = record { first = refl; events = λ part. given_moves_no_part reply part given; held = λ part. refl; freed = λ part. refl }
-start_moves_no_part start.Single reply given = record { first = refl; events = λ part. given_moves_no_part reply part given; held = λ part. refl; freed = λ part. refl }
-start_moves_no_part start.SingleCopy reply given = record { first = refl; events = λ part. given_moves_no_part reply part given; held = λ part. refl; freed = λ part. refl }
+start_moves_no_part (start.Loop desc) reply given = record { first = refl; asks = λ allowed own seat. tt; events = λ part. given_moves_no_part reply part given; held = λ part. refl; freed = λ part. refl }
+start_moves_no_part (start.Sections count end_kind) reply given = record { first = refl; asks = λ allowed own seat. tt; events = λ part. given_moves_no_part reply part given; held = λ part. refl; freed = λ part. refl }
+start_moves_no_part start.Single reply given = record { first = refl; asks = λ allowed own seat. tt; events = λ part. given_moves_no_part reply part given; held = λ part. refl; freed = λ part. refl }
+start_moves_no_part start.SingleCopy reply given = record { first = refl; asks = λ allowed own seat. tt; events = λ part. given_moves_no_part reply part given; held = λ part. refl; freed = λ part. refl }
 
 -- a member that started by its seat, and waits for no words there
 pub starts_alone : (construct : ShareStart) (before : SeatView) (reply : Reply) (after : SeatView) → StartsBySeat construct before reply after → awaits_payload after.seen ≡ false → MovesBy (Starts false construct) before reply after

@@ -9,10 +9,12 @@ pub mod LoopStarts
 pub mod RoomMade
 pub mod Again
 pub mod MoveLaws
+pub mod AnswerLaws
 pub mod MoveExamples
 pub mod MoveRows
 pub mod MoveRefutations
 pub mod MemberRefutations
+pub mod AnswerRefutations
 pub mod SeatExamples
 pub mod SeatRefutations
 pub mod WaitExamples

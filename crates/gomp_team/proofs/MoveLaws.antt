@@ -82,7 +82,7 @@ refusal_moves_no_releases repeated call refusal part = refused_loses_nothing (bo
 
 -- What gives events
 
-arrivals_are_the_teams : (call : Call) (kind : Arrival) → (row_of call).arrives ≡ Some kind → served_by call ≡ Team
+pub arrivals_are_the_teams : (call : Call) (kind : Arrival) → (row_of call).arrives ≡ Some kind → served_by call ≡ Team
 arrivals_are_the_teams calls.Barrier kind arrives = refl
 arrivals_are_the_teams calls.RegionEnd kind arrives = refl
 arrivals_are_the_teams calls.LoopEnd kind arrives = refl

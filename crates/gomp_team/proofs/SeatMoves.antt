@@ -95,10 +95,10 @@ asks_own_share None call cancelled before reply after refused serves = inr (canc
 pub replies_inside : (found : Option Refusal) (call : InsideCall) (cancelled : Bool) (before : SeatView) (reply : Reply) (after : SeatView)
     → ((refusal : Refusal) → found ≡ Some refusal → RefusesInsideBySeat call refusal before reply after)
     → (found ≡ None → ServesInsideBySeat call cancelled before reply after)
-    → IsInsideReply call before.seen reply
+    → IsInsideReply call cancelled before.seen reply
 replies_inside (Some refusal) call cancelled before reply after refused serves =
     let (least, is) = inside_refusal_told call refusal before reply after (refused refusal refl) in
-    refused_reply call before least reply is
+    refused_reply call cancelled before least reply is
 replies_inside None call cancelled before reply after refused serves = served_reply call cancelled before reply after (serves refl)
 
 -- Tries

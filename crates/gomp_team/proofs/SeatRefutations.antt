@@ -3,7 +3,7 @@ use Rattle.std.proofs.Common.{◌≡◌, ◌≢◌, Bool, true, false, refl, ap,
 use Rattle.gomp_types.specs.declared.call.Call.{Call}
 use Rattle.gomp_types.specs.declared.refusal.Refusal.{Refusal}
 use Rattle.gomp_types.specs.declared.reply.Reply.{Reply}
-use Rattle.gomp_types.specs.declared.reply.Reply.TheVariants.{Finished, Refused, Wait}
+use Rattle.gomp_types.specs.declared.reply.Reply.TheVariants.{Cancelled, Finished, Refused, Wait}
 use Rattle.gomp_types.specs.Resumes.{is_resume}
 use Rattle.gomp_ompt.specs.declared.record.Record.{Record}
 use Rattle.gomp_member.specs.Own.{own_meant}
@@ -93,5 +93,9 @@ never_answered_aside call before reply after asks refused served = elim asks [
 ]
 
 -- none of them waits but for a turn
-pub never_waits_but_for_a_turn : (call : InsideCall) (before : SeatView) (reply : Reply) → IsInsideReply call before.seen reply → reply ≡ Wait → waits_for_turns call before.seen ≡ false → ⊥
-never_waits_but_for_a_turn call before reply is waits none = (let turn = is.turns waits in absurd (cc (turn, none)))
+pub never_waits_but_for_a_turn : (call : InsideCall) (cancelled : Bool) (before : SeatView) (reply : Reply) → IsInsideReply call cancelled before.seen reply → reply ≡ Wait → waits_for_turns call before.seen ≡ false → ⊥
+never_waits_but_for_a_turn call cancelled before reply is waits none = (let turn = is.turns waits in absurd (cc (turn, none)))
+
+-- nor says in a region that is not cancelled that it is
+pub never_cut_in_a_whole_region : (call : InsideCall) (before : SeatView) (reply : Reply) → IsInsideReply call false before.seen reply → reply ≡ Cancelled → ⊥
+never_cut_in_a_whole_region call before reply is cut = is.uncut refl cut

@@ -33,7 +33,6 @@ IsPlain (Chunk first count) = Unit {0}
 IsPlain NoChunk = Unit {0}
 IsPlain (Section number) = Unit {0}
 IsPlain (Cancelling told) = Unit {0}
-IsPlain Cancelled = Unit {0}
 IsPlain (Refused refusal) = Unit {0}
 IsPlain reply = ⊥
 
@@ -116,26 +115,32 @@ answer_starts_none true Wait answer starts = starts
 answer_starts_none true reply answer starts = plain_starts_none reply answer starts
 answer_starts_none false reply answer starts = plain_starts_none reply answer starts
 
--- an answer that is cut short in a cancelled region is one still
-cut_is_answer : (cancelled turns : Bool) (served : Reply) → IsAnswer turns served → IsAnswer turns (cut_reply cancelled served)
-cut_is_answer false turns served answer = answer
-cut_is_answer true true Wait answer = tt
-cut_is_answer true false Wait answer = absurd answer
-cut_is_answer true turns served answer = answer
-
 waits_by_answer : (turns : Bool) (reply : Reply) → IsAnswer turns reply → reply ≡ Wait → turns ≡ true
 waits_by_answer true reply answer is = refl
 waits_by_answer false reply answer is = absurd (subst IsPlain is answer)
 
--- the reply of the seat
-pub served_reply : (call : InsideCall) (cancelled : Bool) (before : SeatView) (reply : Reply) (now : SeatView) → ServesInsideBySeat call cancelled before reply now → IsInsideReply call before.seen reply
-served_reply call cancelled before reply now serves =
+cut_by_answer : (turns : Bool) (reply : Reply) → IsAnswer turns reply → reply ≡ Cancelled → ⊥
+cut_by_answer true reply answer is = subst (IsAnswer true) is answer
+cut_by_answer false reply answer is = subst IsPlain is answer
+
+-- an answer, but in a cancelled region to a wait
+uncut_reply : (call : InsideCall) (cancelled : Bool) (before : SeatView) (reply : Reply) → IsAnswer (waits_for_turns call before.seen) reply → IsInsideReply call cancelled before.seen reply
+uncut_reply call cancelled before reply answer =
     let turns = waits_for_turns call before.seen in
-    let answer : IsAnswer turns reply = subst (IsAnswer turns) (sym serves.answer) (cut_is_answer cancelled turns serves.served (answered_inside call before serves.served now serves.answers)) in
-    record { starts = answer_starts_none turns reply answer; turns = waits_by_answer turns reply answer }
+    record { starts = answer_starts_none turns reply answer; turns = waits_by_answer turns reply answer; uncut = λ whole. cut_by_answer turns reply answer }
+
+cut_inside : (call : InsideCall) (cancelled : Bool) (before : SeatView) (served : Reply) → IsAnswer (waits_for_turns call before.seen) served → IsInsideReply call cancelled before.seen (cut_reply cancelled served)
+cut_inside call false before served answer = uncut_reply call false before served answer
+cut_inside call true before Wait answer = record { starts = λ starts. starts; turns = λ waits. absurd (cc); uncut = λ whole. absurd (cc) }
+cut_inside call true before served answer = uncut_reply call true before served answer
+
+-- the reply of the seat
+pub served_reply : (call : InsideCall) (cancelled : Bool) (before : SeatView) (reply : Reply) (now : SeatView) → ServesInsideBySeat call cancelled before reply now → IsInsideReply call cancelled before.seen reply
+served_reply call cancelled before reply now serves =
+    subst (IsInsideReply call cancelled before.seen) (sym serves.answer) (cut_inside call cancelled before serves.served (answered_inside call before serves.served now serves.answers))
 
 -- and a refusal
-pub refused_reply : (call : InsideCall) (before : SeatView) (refusal : Refusal) (reply : Reply) → reply ≡ Refused refusal → IsInsideReply call before.seen reply
-refused_reply call before refusal reply is =
-    let answer : IsAnswer false reply = plain_is_answer false reply (refused_is_plain refusal reply is) in
-    record { starts = answer_starts_none false reply answer; turns = λ waits. absurd (subst IsPlain waits (refused_is_plain refusal reply is)) }
+pub refused_reply : (call : InsideCall) (cancelled : Bool) (before : SeatView) (refusal : Refusal) (reply : Reply) → reply ≡ Refused refusal → IsInsideReply call cancelled before.seen reply
+refused_reply call cancelled before refusal reply is =
+    let plain : IsPlain reply = refused_is_plain refusal reply is in
+    record { starts = plain_starts_none reply plain; turns = λ waits. absurd (subst IsPlain waits plain); uncut = λ whole cut. subst IsPlain cut plain }

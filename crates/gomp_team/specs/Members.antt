@@ -4,6 +4,7 @@ use Rattle.gomp_icv.specs.Variables.{Variables}
 use Rattle.gomp_types.specs.declared.call.Call.{Call}
 use Rattle.gomp_types.specs.declared.call.Call.TheVariants.{TaskCreate, Taskwait}
 use Rattle.gomp_types.specs.declared.call.Call.TheVariants as calls
+use Rattle.gomp_types.specs.declared.limits.Limits.{Limits}
 use Rattle.gomp_types.specs.Resumes.{is_resume}
 use Rattle.gomp_types.specs.declared.refusal.Refusal.TheVariants.{Mismatch}
 use Rattle.gomp_types.specs.declared.reply.Reply.TheVariants.{Cancelling, Chunk, Executor, NoChunk, Refused, Section, Stopped, Wait}
@@ -24,6 +25,7 @@ use Rattle.gomp_shares.specs.declared.admission.Construct.{Construct}
 use Rattle.gomp_seat_calls.specs.Alone.{admits_part, ends_alone, admits_by_turn, sections_alone}
 use Rattle.gomp_seat_calls.specs.Chunks.{claims_alone}
 use Rattle.gomp_seat_calls.specs.Stays.{StaysSeat}
+use Rattle.gomp_team.specs.Answers.{TeamAnswers}
 use Rattle.gomp_team.specs.Moves.{events_part, holds_part, releases_part}
 use Rattle.gomp_team.specs.Seats.{AsksSeat, seat_ask}
 
@@ -32,9 +34,11 @@ pub record TeamView : Type 0 where
   pub number : ℕ
   pub icv : Variables
 
--- the same of what its members share, and which ring has its work-shares
+-- the same of what its members share, with how many these are, its limits, and which ring has its work-shares
 pub record SharedView : Type 0 where
   pub team : TeamView
+  pub members : ℕ
+  pub limits : Limits
   pub ring : Ring
 
 -- what a member is, as data, with its tool
@@ -144,6 +148,7 @@ pub record IsMoved {T : Type 0} (repeated : Bool) (call : Call) (reply : Reply) 
   pub freed : after.freed ≡ releases_part repeated call reply before.freed
   pub seat : AsksSeat repeated (seat_ask before.icv.cancellation repeated call) before.seat reply after.seat
   pub stays : StaysSeat before.seat after.seat
+  pub answers : TeamAnswers before.icv.cancellation repeated before.own call before.seat reply
   pub own : after.own ≡ before.own
   pub tool : after.tool ≡ before.tool
   pub icv : after.icv ≡ before.icv
@@ -158,7 +163,7 @@ pub record HasSameParts {T : Type 0} (before after : MemberView T) : Type 0 wher
   pub ring : after.ring ≡ before.ring
   pub seat : after.seat ≡ before.seat
 
--- the member has made one try of a call, or of the one that its resume repeats, and was answered: it has taken note of the reply, its parts and its seat have moved by it, and its tool has the records; `gives` says what a record does to that
+-- the member has made one try of a call, or of the one that its resume repeats, and its team has answered: it has taken note of the reply, its parts and its seat have moved by it, and its tool has the records; `gives` says what a record does to that
 pub record Called {T : Type 0} (gives : T → Record → T → Type 0) (call : Call) (reply : Reply) (before after : MemberView T) : Type 0 where
   pub own : after.own ≡ own_after reply call before.own
   pub events : after.events ≡ events_part (is_resume call) (own_meant before.own call) reply before.events
@@ -167,6 +172,8 @@ pub record Called {T : Type 0} (gives : T → Record → T → Type 0) (call : C
   -- its seat, which is the same member's, answered what the call asks of it
   pub seat : AsksSeat (is_resume call) (seat_ask before.icv.cancellation (is_resume call) (own_meant before.own call)) before.seat reply after.seat
   pub stays : StaysSeat before.seat after.seat
+  -- the part of the team that answers such a call may answer this
+  pub answers : TeamAnswers before.icv.cancellation (is_resume call) before.own (own_meant before.own call) before.seat reply
   pub icv : after.icv ≡ before.icv
   pub ring : after.ring ≡ before.ring
   pub tool : AfterEach gives before.tool (records_of (own_meant before.own call) (not (is_resume call)) reply) after.tool

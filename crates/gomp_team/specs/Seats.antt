@@ -9,7 +9,7 @@ use Rattle.gomp_types.specs.declared.cancel.CancelKind.TheVariants as kinds
 use Rattle.gomp_types.specs.declared.loop_desc.EndKind.TheVariants.{Wait as WithBarrier, Cancellable}
 use Rattle.gomp_types.specs.declared.refusal.Refusal.{Refusal}
 use Rattle.gomp_types.specs.declared.reply.Reply.{Reply}
-use Rattle.gomp_types.specs.declared.reply.Reply.TheVariants.{Copied, Finished, Refused, Wait}
+use Rattle.gomp_types.specs.declared.reply.Reply.TheVariants.{Cancelled, Copied, Finished, Refused, Wait}
 use Rattle.gomp_types.specs.Servers.{served_by}
 use Rattle.gomp_events.specs.declared.seen.Seen.{Seen}
 use Rattle.gomp_events.specs.Ordered.{is_ordered}
@@ -150,10 +150,11 @@ waits_for_turns (inside.Next constructs.Loop) seen = is_ordered seen.current
 waits_for_turns (inside.BeginPart value) seen = true
 waits_for_turns call seen = false
 
--- a reply to such a call starts no task, and is to wait only for a turn
-pub record IsInsideReply (call : InsideCall) (seen : Seen) (reply : Reply) : Type 0 where
+-- a reply to such a call, in a region that is cancelled or not, starts no task, is to wait only for a turn, and says only of a cancelled region that it is
+pub record IsInsideReply (call : InsideCall) (cancelled : Bool) (seen : Seen) (reply : Reply) : Type 0 where
   pub starts : StartsTask reply → ⊥
   pub turns : reply ≡ Wait → waits_for_turns call seen ≡ true
+  pub uncut : cancelled ≡ false → reply ≢ Cancelled
 
 -- a member that arrives at the barrier at its share's end was answered that nothing is left of that, or has seen that it is cancelled, and has left it
 pub record LeavesDrained (end : ShareEnd) (before after : SeatView) : Type 0 where

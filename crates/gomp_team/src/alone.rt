@@ -14,7 +14,7 @@ ghost use Rattle.gomp_types.specs.declared.reply.Reply.TheVariants.{Executor, Fi
 ghost use Rattle.gomp_types.specs.Pieces.{resolved_loop};
 ghost use Rattle.gomp_shares.specs.declared.admission.Construct.TheVariants.{Loop, Sections};
 ghost use Rattle.gomp_member.specs.Own.{is_free};
-ghost use Rattle.gomp_seat_calls.specs.Chunks.{reply_of_chunk};
+ghost use Rattle.gomp_seat_calls.specs.Chunks.{NoneIsZero, reply_of_chunk};
 ghost use Rattle.gomp_seat_calls.specs.Next.{AnswersNext};
 ghost use Rattle.gomp_seat_calls.specs.Parts.{AnswersPart};
 ghost use Rattle.gomp_team.specs.Members.{Called, may_begin_by_turn, may_claim_section_alone, may_end_alone, may_end_part_alone, may_start_alone, may_take_by_turn};
@@ -40,6 +40,7 @@ impl<L: Ledger, H: HoldLedger, F: Ledger, T: Tool> Member<L, H, F, T> {
         ensures called { IfSome result (λ chunk. Called T.on_gives
             (calls.LoopStart (resolved_loop self.old.icv.sched self.old.icv.chunk desc))
             (reply_of_chunk chunk.first chunk.count) self.old self.new) }
+        ensures zero { IfSome result (λ chunk. NoneIsZero chunk.first chunk.count) }
         ensures free { is_some result ≡ true → may_start_alone self.old ≡ true }
         ensures nowait { is_some result ≡ true → desc.end_kind ≡ Nowait }
         ensures none { result ≡ None → self.new ≡ self.old }
@@ -219,6 +220,7 @@ impl<L: Ledger, H: HoldLedger, F: Ledger, T: Tool> Member<L, H, F, T> {
     pub fn ordered_next_alone(&mut self) -> Option<Chunk>
         ensures called { IfSome result (λ chunk. Called T.on_gives
             calls.LoopNext (reply_of_chunk chunk.first chunk.count) self.old self.new) }
+        ensures zero { IfSome result (λ chunk. NoneIsZero chunk.first chunk.count) }
         ensures none { result ≡ None → self.new ≡ self.old }
         ensures admitted { is_some result ≡ true → may_take_by_turn self.old ≡ true }
         ensures waits { result ≡ None → may_take_by_turn self.old ≡ true →

@@ -14,6 +14,7 @@ ghost use Rattle.gomp_types.specs.Servers.{served_by};
 ghost use Rattle.gomp_team_board.specs.Parts.{part_after};
 ghost use Rattle.gomp_team_board.specs.Locked.{IsAnsweredUnless};
 ghost use Rattle.gomp_ring.specs.RingSeats.{IsOnRing};
+ghost use Rattle.gomp_team.specs.Answers.{TeamAnswers};
 ghost use Rattle.gomp_team.specs.Moves.{events_part, holds_part, releases_part};
 ghost use Rattle.gomp_team.specs.Seats.{AsksSeat, seat_ask};
 ghost use Rattle.gomp_team.specs.Members.{AsksNoItems, BringsItems, AwaitsItems, AwaitsThese};
@@ -45,11 +46,13 @@ impl<L: Ledger, H: HoldLedger, F: Ledger> SharedTeam<L, H, F> {
         ensures held { parts.new.held ≡ holds_part repeated call.now result parts.old.held }
         ensures freed { parts.new.freed ≡ releases_part repeated call.now result parts.old.freed }
         ensures seat { parts.new.seat ≡ parts.old.seat }
+        ensures answers { TeamAnswers self.now.team.icv.cancellation repeated state.now.own call.now
+            parts.old.seat result }
     {
         let found = self.own_refusal(rt, state, &mut parts.seat, call, repeated);
         // The call's kind is asked again, after `served_by`: for the operation that it makes of the call's words.
         match plain_op(self.manner(state, repeated), call) {
-            Some(op) => self.ask(rt, state, parts, &op, found),
+            Some(op) => self.ask(rt, parts, &op, found),
             None => unreachable!(),
         }
     }
@@ -59,20 +62,20 @@ impl<L: Ledger, H: HoldLedger, F: Ledger> SharedTeam<L, H, F> {
     pub(crate) fn ask<R: Wait>(
         &self,
         rt: &R,
-        state: &MemberState,
         parts: &mut MemberParts<L, H, F>,
         op: &Op,
         found: Option<Refusal>,
     ) -> Reply
         requires own { found ≢ Some Mismatch }
-        ensures answer { IsAnsweredUnless found op.now state.now.own.number result }
+        ensures answer { IsAnsweredUnless found op.now parts.old.seat.member result }
         ensures board { parts.new.board ≡ part_after op.now result parts.old.board }
         ensures held { parts.new.held ≡ parts.old.held }
         ensures freed { parts.new.freed ≡ parts.old.freed }
         ensures seat { parts.new.seat ≡ parts.old.seat }
     {
+        let member = parts.seat.member();
         self.board
-            .try_unless(rt, &mut parts.board, state.number(), op, found)
+            .try_unless(rt, &mut parts.board, member, op, found)
     }
 
     /// One try of a call that brings items: the creation of a task, or a taskwait. The operation on the
@@ -94,16 +97,18 @@ impl<L: Ledger, H: HoldLedger, F: Ledger> SharedTeam<L, H, F> {
         ensures seat { parts.new.seat ≡ parts.old.seat }
         ensures asks { AsksSeat false (seat_ask self.now.team.icv.cancellation false call)
             parts.old.seat result.0 parts.new.seat }
+        ensures answers { TeamAnswers self.now.team.icv.cancellation false state.now.own call
+            parts.old.seat result.0 }
     {
         match call {
             Call::TaskCreate(desc) => {
                 let op = Op::Create(desc);
-                let reply = self.ask(rt, state, parts, &op, found);
+                let reply = self.ask(rt, parts, &op, found);
                 (reply, Call::TaskCreate(created_by(op)))
             }
             Call::Taskwait(items) => {
                 let op = Op::Taskwait(items);
-                let reply = self.ask(rt, state, parts, &op, found);
+                let reply = self.ask(rt, parts, &op, found);
                 (reply, Call::Taskwait(awaited_by(op)))
             }
             _ => unreachable!(),
@@ -126,11 +131,13 @@ impl<L: Ledger, H: HoldLedger, F: Ledger> SharedTeam<L, H, F> {
         ensures seat { parts.new.seat ≡ parts.old.seat }
         ensures asks { AsksSeat true (seat_ask self.now.team.icv.cancellation true call)
             parts.old.seat result.0 parts.new.seat }
+        ensures answers { TeamAnswers self.now.team.icv.cancellation true state.now.own call
+            parts.old.seat result.0 }
     {
         match call {
             Call::Taskwait(items) => {
                 let op = Op::AwaitChildren(items);
-                let reply = self.ask(rt, state, parts, &op, None);
+                let reply = self.ask(rt, parts, &op, None);
                 (reply, Call::Taskwait(awaited_by(op)))
             }
             _ => unreachable!(),

@@ -6,7 +6,9 @@ ghost use Rattle.std.specs.Prelude.{◌≡◌, false, true};
 ghost use Rattle.gomp_types.specs.declared.call.Server.TheVariants.{Book};
 ghost use Rattle.gomp_types.specs.Servers.{served_by};
 ghost use Rattle.gomp_team.specs.Members.{HoldsKey, FreesKey};
-ghost use Rattle.gomp_team.specs.Moves.{events_part, holds_part, releases_part};
+ghost use Rattle.gomp_member.specs.Own.{own_owner};
+ghost use Rattle.gomp_team.specs.Answers.{AnswersBook, TeamAnswers};
+ghost use Rattle.gomp_team.specs.Moves.{book_call, events_part, holds_part, releases_part};
 
 use crate::parts::MemberParts;
 use crate::team::SharedTeam;
@@ -38,6 +40,8 @@ impl<L: Ledger, H: HoldLedger, F: Ledger> SharedTeam<L, H, F> {
         ensures held { parts.new.held ≡ holds_part repeated call.now result parts.old.held }
         ensures freed { parts.new.freed ≡ releases_part repeated call.now result parts.old.freed }
         ensures seat { parts.new.seat ≡ parts.old.seat }
+        ensures answers { TeamAnswers self.now.team.icv.cancellation repeated state.now.own call.now
+            parts.old.seat result }
     {
         if let Some(refusal) = self.early_refusal(rt, state, call, repeated) {
             return Reply::Refused(refusal);
@@ -84,6 +88,7 @@ impl<L: Ledger, H: HoldLedger, F: Ledger> SharedTeam<L, H, F> {
         ensures held { parts.new.held ≡ holds_part false call.now result parts.old.held }
         ensures freed { parts.new.freed ≡ releases_part false call.now result parts.old.freed }
         ensures seat { parts.new.seat ≡ parts.old.seat }
+        ensures answer { AnswersBook (own_owner state.now.own) (book_call false call.now) result }
     {
         let owner = state.owner();
         let held = &mut parts.held;
@@ -110,6 +115,7 @@ impl<L: Ledger, H: HoldLedger, F: Ledger> SharedTeam<L, H, F> {
         ensures held { parts.new.held ≡ holds_part true call.now result parts.old.held }
         ensures freed { parts.new.freed ≡ releases_part true call.now result parts.old.freed }
         ensures seat { parts.new.seat ≡ parts.old.seat }
+        ensures answer { AnswersBook (own_owner state.now.own) (book_call true call.now) result }
     {
         let owner = state.owner();
         let held = &mut parts.held;
@@ -138,6 +144,8 @@ impl<L: Ledger, H: HoldLedger, F: Ledger> SharedTeam<L, H, F> {
         ensures held { parts.new.held ≡ holds_part repeated call.now result parts.old.held }
         ensures freed { parts.new.freed ≡ releases_part repeated call.now result parts.old.freed }
         ensures seat { parts.new.seat ≡ parts.old.seat }
+        ensures answer { AnswersBook (own_owner state.now.own) (book_call repeated call.now)
+            result }
     {
         let owner = state.owner();
         let freed = &mut parts.freed;

@@ -8,7 +8,7 @@ ghost use Rattle.std.specs.Prelude.{◌≡◌, ◌≢◌, ◌<◌, false, true, 
 ghost use Rattle.gomp_types.specs.declared.call.Call.TheVariants as calls;
 ghost use Rattle.gomp_types.specs.declared.call.Server.TheVariants.{Shares as OfShares};
 ghost use Rattle.gomp_types.specs.Servers.{served_by};
-ghost use Rattle.gomp_types.specs.declared.reply.Reply.TheVariants.{Wait as Waits};
+ghost use Rattle.gomp_types.specs.declared.reply.Reply.TheVariants.{Cancelled, Wait as Waits};
 ghost use Rattle.gomp_events.specs.Ordered.{is_ordered};
 ghost use Rattle.gomp_member.specs.Own.{names_share};
 ghost use Rattle.gomp_member.specs.Rooms.{StartsTask};
@@ -19,7 +19,7 @@ ghost use Rattle.gomp_team.specs.Seats.{MovesBy, IsInsideReply, inside_of, seat_
 ghost use Rattle.gomp_team.specs.Seats.SeatAsk.{Inside};
 ghost use Rattle.gomp_ompt.specs.Table.{records_of};
 ghost use Rattle.gomp_ompt.specs.Tools.{AfterEach};
-ghost use Rattle.gomp_seat_calls.specs.Chunks.{reply_of_chunk};
+ghost use Rattle.gomp_seat_calls.specs.Chunks.{NoneIsZero, reply_of_chunk};
 ghost use Rattle.gomp_team.specs.Members.{AsksItsShare, Called, HasSameParts, may_claim_alone};
 
 use crate::member::Member;
@@ -44,6 +44,7 @@ impl<L: Ledger, H: HoldLedger, F: Ledger, T: Tool> Member<L, H, F, T> {
     pub fn claim_next(&mut self) -> Reply
         ensures called { Called T.on_gives calls.LoopNext result self.old self.new }
         ensures turns { result ≡ Waits → is_ordered self.old.seat.seen.current ≡ true }
+        ensures uncut { result ≢ Cancelled }
     {
         if self.may_claim_chunk() {
             return self.claim_chunk().into_reply();
@@ -68,6 +69,7 @@ impl<L: Ledger, H: HoldLedger, F: Ledger, T: Tool> Member<L, H, F, T> {
         requires alone { may_claim_alone self.old ≡ true }
         ensures called { Called T.on_gives calls.LoopNext
             (reply_of_chunk result.first result.count) self.old self.new }
+        ensures zero { NoneIsZero result.first result.count }
         ensures again { 0 < result.count → may_claim_alone self.new ≡ true }
     {
         let seat = &mut self.parts.seat;
@@ -82,6 +84,7 @@ impl<L: Ledger, H: HoldLedger, F: Ledger, T: Tool> Member<L, H, F, T> {
     fn ask_next_chunk(&mut self) -> Reply
         ensures called { Called T.on_gives calls.LoopNext result self.old self.new }
         ensures turns { result ≡ Waits → is_ordered self.old.seat.seen.current ≡ true }
+        ensures uncut { result ≢ Cancelled }
     {
         self.ask_seat(Call::LoopNext)
     }
@@ -101,6 +104,7 @@ impl<L: Ledger, H: HoldLedger, F: Ledger, T: Tool> Member<L, H, F, T> {
     pub fn sections_next(&mut self) -> Reply
         ensures called { Called T.on_gives calls.SectionsNext result self.old self.new }
         ensures answered { result ≢ Waits }
+        ensures uncut { result ≢ Cancelled }
     {
         self.ask_seat(Call::SectionsNext)
     }
@@ -109,6 +113,7 @@ impl<L: Ledger, H: HoldLedger, F: Ledger, T: Tool> Member<L, H, F, T> {
     pub fn loop_end_nowait(&mut self) -> Reply
         ensures called { Called T.on_gives calls.LoopEndNowait result self.old self.new }
         ensures answered { result ≢ Waits }
+        ensures uncut { result ≢ Cancelled }
     {
         self.ask_seat(Call::LoopEndNowait)
     }
@@ -117,6 +122,7 @@ impl<L: Ledger, H: HoldLedger, F: Ledger, T: Tool> Member<L, H, F, T> {
     pub fn sections_end_nowait(&mut self) -> Reply
         ensures called { Called T.on_gives calls.SectionsEndNowait result self.old self.new }
         ensures answered { result ≢ Waits }
+        ensures uncut { result ≢ Cancelled }
     {
         self.ask_seat(Call::SectionsEndNowait)
     }
@@ -126,6 +132,7 @@ impl<L: Ledger, H: HoldLedger, F: Ledger, T: Tool> Member<L, H, F, T> {
         requires share { names_share (Some kind) ≡ true }
         ensures called { Called T.on_gives (calls.Cancel kind true) result self.old self.new }
         ensures answered { result ≢ Waits }
+        ensures uncut { result ≢ Cancelled }
     {
         self.ask_seat(Call::Cancel { kind, clause: true })
     }
@@ -135,6 +142,7 @@ impl<L: Ledger, H: HoldLedger, F: Ledger, T: Tool> Member<L, H, F, T> {
         requires share { names_share (Some kind) ≡ true }
         ensures called { Called T.on_gives (calls.Point kind) result self.old self.new }
         ensures answered { result ≢ Waits }
+        ensures uncut { result ≢ Cancelled }
     {
         self.ask_seat(Call::Point(kind))
     }
@@ -147,6 +155,7 @@ impl<L: Ledger, H: HoldLedger, F: Ledger, T: Tool> Member<L, H, F, T> {
         ensures turns { (inside : InsideCall) →
             inside_of self.old.icv.cancellation call ≡ Some inside →
             result ≡ Waits → waits_for_turns inside self.old.seat.seen ≡ true }
+        ensures uncut { result ≢ Cancelled }
     {
         let seat = &mut self.parts.seat;
         let reply = self.team.answer_by_seat(&self.state, seat, &call);
@@ -168,7 +177,8 @@ impl<L: Ledger, H: HoldLedger, F: Ledger> SharedTeam<L, H, F> {
         ensures starts { StartsTask result → ⊥ }
         ensures answer { (inside : InsideCall) →
             inside_of self.now.team.icv.cancellation call.now ≡ Some inside →
-            IsInsideReply inside seat.old.seen result }
+            IsInsideReply inside false seat.old.seen result }
+        ensures uncut { result ≢ Cancelled }
     {
         match inside_call(call, self.icv.cancellation()) {
             Some(inside) if state.is_free() => {
@@ -192,7 +202,7 @@ impl<L: Ledger, H: HoldLedger, F: Ledger> SharedTeam<L, H, F> {
         requires served { served_by call.now ≡ OfShares }
         requires ring { IsOnRing self.now.ring seat.old }
         ensures seat { MovesBy (Inside inside.now) seat.old result seat.new }
-        ensures answer { IsInsideReply inside.now seat.old.seen result }
+        ensures answer { IsInsideReply inside.now false seat.old.seen result }
         ensures stays { StaysSeat seat.old seat.new }
     {
         let own = self.member_refusal(state, seat, call);

@@ -1,6 +1,6 @@
 //! A member of a team, as its thread owns it.
 
-ghost use Rattle.std.specs.Prelude.{IfOk, IfErr, ◌≡◌, not, true, false, List, Some};
+ghost use Rattle.std.specs.Prelude.{IfOk, IfErr, ◌≡◌, true, false, List, Some};
 ghost use Rattle.gomp_types.specs.declared.call.Call.TheVariants.{Resume, TaskCreate, Taskwait};
 ghost use Rattle.gomp_types.specs.declared.depend.Dep.{Dep};
 ghost use Rattle.gomp_types.specs.Resumes.{is_resume};

@@ -136,6 +136,7 @@ fn cancel_inside(kind: CancelKind, clause: bool, allowed: bool) -> Option<Inside
 pub(crate) fn share_end(call: &Call) -> Option<ShareEnd>
     ensures end { result ≡ end_of call.now }
     ensures some { (row_of call.now).arrives ≡ Some AtShareEnd → IsSome result }
+    ensures arrives { IfSome result (λ end. (row_of call.now).arrives ≡ Some AtShareEnd) }
 {
     match call {
         Call::LoopEnd => Some(end_of(Construct::Loop, EndKind::Wait)),

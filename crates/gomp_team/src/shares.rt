@@ -10,12 +10,14 @@ ghost use Rattle.gomp_types.specs.declared.refusal.Refusal.TheVariants.{Mismatch
 ghost use Rattle.gomp_team_board.specs.Parts.{part_after};
 ghost use Rattle.gomp_events.specs.declared.event.Arrival.TheVariants.{ShareEnd as AtShareEnd};
 ghost use Rattle.gomp_board.specs.declared.op.Op.TheVariants.{Put};
+ghost use Rattle.gomp_events.specs.Events.{share_number};
 ghost use Rattle.gomp_events.specs.Tags.{tag_with};
 ghost use Rattle.gomp_dispatch.specs.Serves.{arrival_op};
 ghost use Rattle.gomp_team_calls.specs.Starts.{start_part};
 ghost use Rattle.gomp_ring.specs.RingSeats.{IsOnRing};
 ghost use Rattle.gomp_seat_calls.specs.Stays.{StaysSeat};
 ghost use Rattle.gomp_seat_calls.specs.Starts.{awaits_payload};
+ghost use Rattle.gomp_team.specs.Answers.{AnswersOp, TeamAnswers};
 ghost use Rattle.gomp_team.specs.Moves.{events_part, holds_part, releases_part};
 ghost use Rattle.gomp_team.specs.Members.{is_given};
 ghost use Rattle.gomp_team.specs.Seats.{MovesBy, IsInsideReply, seat_ask, ask_of_end};
@@ -92,6 +94,8 @@ impl<L: Ledger, H: HoldLedger, F: Ledger> SharedTeam<L, H, F> {
         ensures seat { MovesBy (seat_ask self.now.team.icv.cancellation repeated call.now)
             parts.old.seat result parts.new.seat }
         ensures stays { StaysSeat parts.old.seat parts.new.seat }
+        ensures answers { TeamAnswers self.now.team.icv.cancellation repeated state.now.own call.now
+            parts.old.seat result }
     {
         let found = self.own_refusal(rt, state, &mut parts.seat, call, repeated);
         match call {
@@ -240,9 +244,12 @@ impl<L: Ledger, H: HoldLedger, F: Ledger> SharedTeam<L, H, F> {
         ensures freed { parts.new.freed ≡ parts.old.freed }
         ensures seat { MovesBy (ask_of_end repeated end) parts.old.seat result parts.new.seat }
         ensures stays { StaysSeat parts.old.seat parts.new.seat }
+        ensures answer { AnswersOp parts.old.seat.member (Some (arrival_op repeated
+            state.now.own.leaving.region
+            (tag_with AtShareEnd parts.old.seat.seen.entered))) result }
     {
         if repeated {
-            return self.ask(rt, state, parts, &Op::AwaitBarrier, found);
+            return self.ask(rt, parts, &Op::AwaitBarrier, found);
         }
         let mut board = self.board.lock(rt);
         let leaving = state.leaving().region;
@@ -270,9 +277,11 @@ impl<L: Ledger, H: HoldLedger, F: Ledger> SharedTeam<L, H, F> {
         ensures held { parts.new.held ≡ parts.old.held }
         ensures freed { parts.new.freed ≡ parts.old.freed }
         ensures seat { parts.new.seat ≡ parts.old.seat }
+        ensures answer { AnswersOp parts.old.seat.member (Some (arrival_op repeated
+            state.now.own.leaving.region (tag_with kind parts.old.seat.seen.entered))) result }
     {
         if repeated {
-            return self.ask(rt, state, parts, &Op::AwaitBarrier, found);
+            return self.ask(rt, parts, &Op::AwaitBarrier, found);
         }
         let mut board = self.board.lock(rt);
         let leaving = state.leaving().region;
@@ -297,6 +306,8 @@ impl<L: Ledger, H: HoldLedger, F: Ledger> SharedTeam<L, H, F> {
         ensures freed { parts.new.freed ≡ parts.old.freed }
         ensures seat { MovesBy Puts parts.old.seat result parts.new.seat }
         ensures stays { StaysSeat parts.old.seat parts.new.seat }
+        ensures answer { AnswersOp parts.old.seat.member
+            (Some (Put (share_number parts.old.seat.seen.current) words.now)) result }
     {
         let mut board = self.board.lock(rt);
         let seat = &mut parts.seat;
@@ -334,7 +345,7 @@ pub(crate) fn answer_inside(
 ) -> Reply
     requires ring { IsOnRing ring.now seat.old }
     ensures seat { MovesBy (Inside call.now) seat.old result seat.new }
-    ensures answer { IsInsideReply call.now seat.old.seen result }
+    ensures answer { IsInsideReply call.now cancelled seat.old.seen result }
     ensures stays { StaysSeat seat.old seat.new }
 {
     call_inside(ring, seat, call, cancelled, found)

@@ -1,7 +1,7 @@
 //! What the members of a team share.
 
 ghost use Rattle.std.specs.Prelude.{◌≡◌, ◌≢◌, ◌↔◌, ◌⊎◌, IfOk, IfErr, Some, length, reverse};
-ghost use Rattle.gomp_types.specs.Limits.{IsTeamSize};
+ghost use Rattle.gomp_types.specs.Limits.{IsTeamSize, capped_limits};
 ghost use Rattle.gomp_team_board.specs.Counts.{counted_events};
 ghost use Rattle.gomp_team_board.specs.Locked.{team_size, KeptLaws};
 ghost use Rattle.gomp_team_board.specs.Parts.{new_part};
@@ -12,6 +12,7 @@ ghost use Rattle.gomp_ring.specs.Rings.{ring_members};
 ghost use Rattle.gomp_ring.specs.RingSeats.{AreAllSeats, Gathers, IsOnRing};
 ghost use Rattle.gomp_seats.specs.NewSeats.{AreNewSeats};
 ghost use Rattle.gomp_seat_calls.specs.Stays.{StaysSeat};
+ghost use Rattle.gomp_team.specs.Answers.{TeamAnswers, made_by};
 ghost use Rattle.gomp_team.specs.Moves.{events_part, holds_part, releases_part};
 ghost use Rattle.gomp_team.specs.Seats.{AsksSeat, seat_ask};
 ghost use Rattle.gomp_team.specs.Members.{AsksNoItems, cuts};
@@ -60,14 +61,19 @@ pub struct SharedTeam<L: Ledger, H: HoldLedger, F: Ledger> {
 }
 
 impl<L: Ledger, H: HoldLedger, F: Ledger> Model for SharedTeam<L, H, F> {
+    ghost use Rattle.std.specs.Prelude.{◌≡◌};
     ghost use Rattle.gomp_team.specs.Members.{SharedView};
 
     ghost Value = { SharedView };
 
     ghost view = { λ team. record {
       team = record { number = team.number; icv = team.icv };
+      members = team.board.members;
+      limits = team.board.limits;
       ring = team.ring;
     } };
+
+    ghost invariant = { λ team. team.limits ≡ team.board.limits };
 }
 
 /// What a team is made with, beside its size.
@@ -109,6 +115,8 @@ impl<L: Ledger, H: HoldLedger, F: Ledger> SharedTeam<L, H, F> {
         ensures size { IfErr result (λ refused. refused.0 ≡ BadTeam ↔ (IsTeamSize count → ⊥)) }
         ensures refused { IfErr result (λ refused. (refused.0 ≡ BadTeam) ⊎ (refused.0 ≡ NoMemory)) }
         ensures fits { IfOk result (λ made. IsTeamSize count) }
+        ensures members { IfOk result (λ made. made.team.members ≡ count) }
+        ensures limits { IfOk result (λ made. made.team.limits ≡ capped_limits terms.limits) }
         ensures number { IfOk result (λ made. made.team.team.number ≡ terms.number) }
         ensures icv { IfOk result (λ made. made.team.team.icv ≡ terms.icv) }
         ensures whole { IfOk result (λ made. made.whole ≡ new_part L.parts 0) }
@@ -135,6 +143,8 @@ impl<L: Ledger, H: HoldLedger, F: Ledger> SharedTeam<L, H, F> {
     ) -> Result<NewTeam<L, H, F>, EventLedger<L>>
         requires size { IsTeamSize count }
         requires ledger { ledger ≡ L.parts }
+        ensures members { IfOk result (λ made. made.team.members ≡ count) }
+        ensures limits { IfOk result (λ made. made.team.limits ≡ capped_limits terms.limits) }
         ensures number { IfOk result (λ made. made.team.team.number ≡ terms.number) }
         ensures icv { IfOk result (λ made. made.team.team.icv ≡ terms.icv) }
         ensures whole { IfOk result (λ made. made.whole ≡ new_part L.parts 0) }
@@ -186,6 +196,8 @@ impl<L: Ledger, H: HoldLedger, F: Ledger> SharedTeam<L, H, F> {
         ensures seat { AsksSeat repeated (seat_ask self.now.team.icv.cancellation repeated call.now)
             parts.old.seat result parts.new.seat }
         ensures stays { StaysSeat parts.old.seat parts.new.seat }
+        ensures answers { TeamAnswers self.now.team.icv.cancellation repeated state.now.own call.now
+            parts.old.seat result }
     {
         match call.served_by() {
             Server::Book => self.answer_by_book(rt, state, parts, call, repeated),
@@ -197,7 +209,7 @@ impl<L: Ledger, H: HoldLedger, F: Ledger> SharedTeam<L, H, F> {
 
     /// How the member makes a call, or repeats one.
     pub(crate) fn manner(&self, state: &MemberState, repeated: bool) -> Manner
-        ensures repeated { result.repeated ≡ repeated }
+        ensures { result ≡ made_by self.now.team.icv.cancellation repeated state.now.own }
     {
         Manner {
             repeated,

@@ -16,6 +16,7 @@ ghost use Rattle.gomp_member.specs.Own.{own_meant, own_after};
 ghost use Rattle.gomp_member.specs.Rooms.{StartsTask};
 ghost use Rattle.gomp_ring.specs.RingSeats.{IsOnRing};
 ghost use Rattle.gomp_seat_calls.specs.Stays.{StaysSeat};
+ghost use Rattle.gomp_team.specs.Answers.{TeamAnswers};
 ghost use Rattle.gomp_team.specs.Moves.{events_part, holds_part, releases_part};
 ghost use Rattle.gomp_team.specs.Seats.{AsksSeat, seat_ask};
 ghost use Rattle.gomp_team.specs.Members.{Called, CalledWhole, IsMoved, HasSameParts, AsksNoItems};
@@ -130,8 +131,9 @@ impl<L: Ledger, H: HoldLedger, F: Ledger, T: Tool> Member<L, H, F, T> {
             unreachable!()
         };
         let op = Op::AwaitChildren(items);
+        let member = self.parts.seat.member();
         let part = &mut self.parts.board;
-        let reply = self.team.board.await_op(rt, part, self.state.number(), &op);
+        let reply = self.team.board.await_op(rt, part, member, &op);
         self.state.put_open(Call::Taskwait(items_of(op)));
         reply
     }
@@ -155,11 +157,14 @@ impl<L: Ledger, H: HoldLedger, F: Ledger> SharedTeam<L, H, F> {
         ensures seat { AsksSeat true (seat_ask self.now.team.icv.cancellation true call.now)
             parts.old.seat result parts.new.seat }
         ensures stays { StaysSeat parts.old.seat parts.new.seat }
+        ensures answers { TeamAnswers self.now.team.icv.cancellation true state.now.own call.now
+            parts.old.seat result }
     {
         match awaited_op(call) {
-            Some(op) => self
-                .board
-                .await_op(rt, &mut parts.board, state.number(), &op),
+            Some(op) => {
+                let member = parts.seat.member();
+                self.board.await_op(rt, &mut parts.board, member, &op)
+            }
             None => self.look_again(rt, state, parts, call, true),
         }
     }
@@ -184,6 +189,8 @@ impl<L: Ledger, H: HoldLedger, F: Ledger> SharedTeam<L, H, F> {
         ensures seat { AsksSeat true (seat_ask self.now.team.icv.cancellation repeated call.now)
             parts.old.seat result parts.new.seat }
         ensures stays { StaysSeat parts.old.seat parts.new.seat }
+        ensures answers { TeamAnswers self.now.team.icv.cancellation repeated state.now.own call.now
+            parts.old.seat result }
     {
         let backoff = Backoff::new();
         for _ in rt.forever() {

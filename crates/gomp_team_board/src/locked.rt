@@ -1,6 +1,6 @@
 //! The board under a lock.
 
-ghost use Rattle.std.specs.Prelude.{ℕ, ◌≡◌, ◌≢◌, ◌<◌, ◌≤◌, ◌+◌, List, Option, Some, None, option_copied, reverse};
+ghost use Rattle.std.specs.Prelude.{◌≡◌, ◌≢◌, ◌<◌, ◌≤◌, ◌+◌, List, Option, Some, None, option_copied, reverse};
 ghost use Rattle.gomp_types.specs.declared.refusal.Refusal.TheVariants.{BadMember, Mismatch};
 ghost use Rattle.gomp_types.specs.Limits.{IsTeamSize};
 ghost use Rattle.gomp_events.specs.declared.event.Event.{Event};
@@ -13,7 +13,7 @@ ghost use Rattle.gomp_board.specs.KeptPayload.{HasPayload};
 ghost use Rattle.gomp_waits.specs.Waits.{is_waiting, PerformsOrWaits};
 ghost use Rattle.gomp_waits.specs.Words.{payload_refusal, WordsRule};
 ghost use Rattle.gomp_team_board.specs.Counts.{counted_events, events_given};
-ghost use Rattle.gomp_team_board.specs.Parts.{PartView, new_part, part_after};
+ghost use Rattle.gomp_team_board.specs.Parts.{new_part, part_after};
 ghost use Rattle.gomp_team_board.specs.Locked.{team_size, locked_refusal, comes_first, AnswersMember, AnswersNumber, AnswersUnless, RefusesWords, MovesCounts, KeptLaws};
 
 use crate::counts::{counted_events, events_given};

@@ -1,13 +1,13 @@
 //! The board as members on threads share it: one try of an operation, and waits.
 
-ghost use Rattle.std.specs.Prelude.{Bool, true, ◌≡◌, ◌≢◌, ◌<◌, ◌≤◌, Some, reverse};
+ghost use Rattle.std.specs.Prelude.{true, ◌≡◌, ◌≢◌, ◌<◌, Some, reverse};
 ghost use Rattle.gomp_types.specs.declared.refusal.Refusal.TheVariants.{Mismatch};
 ghost use Rattle.gomp_types.specs.declared.reply.Reply.TheVariants.{Wait};
 ghost use Rattle.gomp_events.specs.Laws.{Always};
 ghost use Rattle.gomp_waits.specs.Waits.{resumes_wait};
 ghost use Rattle.gomp_waits.specs.Words.{WordsRule};
 ghost use Rattle.gomp_team_board.specs.Counts.{counted_events};
-ghost use Rattle.gomp_team_board.specs.Parts.{PartView, new_part, part_after};
+ghost use Rattle.gomp_team_board.specs.Parts.{new_part, part_after};
 ghost use Rattle.gomp_team_board.specs.Locked.{team_size, IsAnsweredUnderLock, IsAnsweredUnless, KeptLaws};
 ghost use Rattle.gomp_team_board.specs.Shared.{wakes};
 
@@ -16,9 +16,10 @@ use crate::lock::{take, try_step};
 use crate::locked::LockedBoard;
 use crate::part::Part;
 use gomp_board::Op;
-use gomp_types::{Refusal, Reply};
+use gomp_types::{Limits, Refusal, Reply};
 use gomp_waits::WaitBoard;
 use std::hint;
+use std::marker::Model;
 use std::sync::ledger::Ledger;
 use std::sync::{Condvar, Mutex, MutexGuard, Wait};
 
@@ -29,11 +30,24 @@ const TURNS: u32 = 80_000;
 /// A team's board as its members on threads share it: each calls it with its own [`Part`].
 #[derive(Drop)]
 pub struct SharedBoard<L: Ledger> {
+    /// The board, under its lock.
     board: Mutex<LockedBoard<L>>,
     /// Notified whenever members that wait may go on.
     moved: Condvar,
     /// How many turns one of them looks for a notification before it sleeps.
     turns: u32,
+    /// How many members the team has, 1 to 64.
+    members: u16,
+    /// The team's limits.
+    limits: Limits,
+}
+
+impl<L: Ledger> Model for SharedBoard<L> {
+    ghost use Rattle.gomp_team_board.specs.Shared.{SharedBoardView};
+
+    ghost Value = { SharedBoardView };
+
+    ghost view = { λ shared. record { members = shared.members; limits = shared.limits } };
 }
 
 impl<L: Ledger> SharedBoard<L> {
@@ -42,14 +56,20 @@ impl<L: Ledger> SharedBoard<L> {
     pub fn new(board: WaitBoard, ledger: EventLedger<L>) -> (SharedBoard<L>, Part<L>)
         requires words { Always WordsRule (reverse board.board.history) }
         requires ledger { ledger ≡ L.parts }
+        ensures members { result.0.members ≡ team_size board }
+        ensures limits { result.0.limits ≡ board.board.limits }
         ensures whole { result.1 ≡ new_part L.parts (counted_events board.board.history) }
     {
-        let turns = TURNS / board.members() as u32;
+        let members = board.members();
+        let limits = board.limits();
+        let turns = TURNS / members as u32;
         let (board, part) = LockedBoard::new(board, ledger);
         let shared = SharedBoard {
             board: Mutex::new(board),
             moved: Condvar::new(),
             turns,
+            members,
+            limits,
         };
         (shared, part)
     }

@@ -145,6 +145,8 @@ pub fn note_words<L: Ledger>(
 ) -> Reply
     ensures given { IsAccepted result → (result ≡ Copied words) ×
         AnswersNumber (Got share words) member board.old board.new Finished }
+    ensures refused { (refusal : Refusal) → result ≡ Refused refusal →
+        AnswersNumber (Got share words) member board.old board.new (Refused refusal) }
     ensures matches { result ≢ Refused Mismatch }
     ensures counts { (k : ℕ) →
         counts_in k board.new.board.history ≡ counts_in k board.old.board.history }

@@ -1,8 +1,5 @@
 //! The book of names and locks, as whoever forks a team has it.
 
-ghost use Rattle.std.specs.Prelude.{◌≡◌};
-ghost use Rattle.gomp_team_book.specs.Parts.{new_book_part, merged_book_part};
-
 use gomp_team_book::{BookPart, HoldLedger, LockedBook};
 use std::alloc::Global;
 use std::sync::ledger::Ledger;

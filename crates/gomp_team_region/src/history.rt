@@ -1,6 +1,6 @@
 //! Whether the history of a region has what its members were answered.
 
-ghost use Rattle.std.specs.Prelude.{◌≡◌, ◌≤◌, ◌↔◌, Bool, IsTrue, IsOk, IfOk, IfErr, length, reverse};
+ghost use Rattle.std.specs.Prelude.{◌≡◌, ◌≤◌, ◌↔◌, IsTrue, IsOk, IfOk, IfErr, length, reverse};
 ghost use Rattle.gomp_types.specs.declared.limits.TheConstants.{MAX_MEMBERS};
 ghost use Rattle.gomp_events.specs.Cancels.{is_cancelled};
 ghost use Rattle.gomp_events.specs.Events.{clash_of, has_left_region};

@@ -1,7 +1,5 @@
 //! Programs that make planned calls, and execute each task that they are handed.
 
-ghost use Rattle.std.specs.Prelude.{◌≡◌, IfOk, vec_len};
-
 use gomp_runtime::{Act, Program};
 use gomp_types::{Call, CriticalName, Deps, Refusal, Reply, TaskDesc};
 use std::alloc::{AllocError, Global};

@@ -1,6 +1,6 @@
 //! The text of a trace: one JSON object, an event a line, in the Chrome Trace Event format.
 
-ghost use Rattle.std.specs.Prelude.{◌≡◌, ◌++◌, codes, string_bytes, IfOk, OnOk};
+ghost use Rattle.std.specs.Prelude.{◌≡◌, ◌++◌, string_bytes, IfOk, OnOk};
 ghost use Rattle.serde_json.specs.View.{view};
 ghost use Rattle.serde_json.specs.Written.{compact_text};
 ghost use Rattle.gomp_trace.specs.Json.{args_data, event_data, moment_data, name_data, names_text, next_text, slice_data, trace_text};

@@ -74,6 +74,13 @@ impl WaitBoard {
         self.waiting.len() as u16
     }
 
+    /// The team's limits.
+    pub fn limits(&self) -> Limits
+        ensures { result ≡ self.now.board.limits }
+    {
+        self.board.limits()
+    }
+
     /// Whether the wait of the member, numbered from 0, is open.
     pub fn is_waiting(&self, member: u16) -> bool
         requires member { member < members_of self.now.board }

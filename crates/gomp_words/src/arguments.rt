@@ -1,7 +1,6 @@
 //! The arguments of calls that take no memory.
 
-ghost use Rattle.std.specs.Prelude.{◌≡◌, ◌≤◌, ◌<◌, ◌^◌, length, IfSome, IsTrue};
-ghost use Rattle.std.specs.List.{list_all};
+ghost use Rattle.std.specs.Prelude.{◌≡◌, ◌<◌};
 ghost use Rattle.gomp_words.specs.Kinds.{sched_of, end_of, cancel_of, dep_kind_of, flag_of};
 ghost use Rattle.gomp_words.specs.Calls.{name_of, payload_of, lock_of};
 

@@ -1,8 +1,8 @@
 //! The call that words say.
 
-ghost use Rattle.std.specs.Prelude.{◌≡◌, ◌∷◌, ◌≢◌, [], IfOk, IfSome, IsErr, IsSomeAnd};
+ghost use Rattle.std.specs.Prelude.{◌≡◌, ◌∷◌, IfOk, IfSome, IsErr, IsSomeAnd};
 ghost use Rattle.gomp_types.specs.Copies.{CopyTakesMemory};
-ghost use Rattle.gomp_words.specs.Calls.{call_of, alone, loop_call, sections_call, copy_call, ordered_call, task_call, taskwait_call, cancel_call, point_call, IsSayable};
+ghost use Rattle.gomp_words.specs.Calls.{call_of, alone, loop_call, sections_call, ordered_call, task_call, taskwait_call, cancel_call, point_call, IsSayable};
 
 use crate::arguments::{
     read_cancel_kind, read_end_kind, read_flag, read_lock, read_name, read_payload, read_sched,

@@ -1,6 +1,6 @@
 //! A reply as numbers.
 
-ghost use Rattle.std.specs.Prelude.{◌≡◌, ◌∷◌, [], ◌≤◌, length, get_or};
+ghost use Rattle.std.specs.Prelude.{◌≡◌, ◌≤◌, length, get_or};
 ghost use Rattle.gomp_words.specs.Replies.{numbers_of, padded, IsTellable};
 ghost use Rattle.gomp_types.specs.declared.reply.Reply.TheVariants.{Copied, Refused};
 

@@ -1,7 +1,6 @@
 use Rattle.std.proofs.Common.{◌<◌, false}
 use Rattle.gomp_events.specs.Events.{shares_entered}
 use Rattle.gomp_types.specs.Singles.{single_shape}
-use Rattle.gomp_types.specs.declared.reply.Reply.TheVariants.{Executor}
 use Rattle.gomp_shares.specs.Singles.{DealsSingle}
 use Rattle.gomp_shares.proofs.Admitted.{begin_compared}
 use Rattle.gomp_shares.proofs.Entered.{may_claim}

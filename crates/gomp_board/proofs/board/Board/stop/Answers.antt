@@ -1,5 +1,5 @@
 use Rattle.std.proofs.Common.{refl, arith, ap, ◌-◌, ◌∙◌}
-use Rattle.std.specs.Prelude.{ℕ, ◌≡◌, slice_set}
+use Rattle.std.specs.Prelude.{◌≡◌, slice_set}
 use Rattle.gomp_board.specs.declared.op.Op.TheVariants.{Break}
 use Rattle.gomp_types.specs.declared.reply.Reply.TheVariants.{Stopped}
 use Rattle.gomp_board.proofs.AdmittedArrivals.{unbroken_of}

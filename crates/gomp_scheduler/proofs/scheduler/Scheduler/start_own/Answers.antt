@@ -1,4 +1,4 @@
-use Rattle.std.proofs.Common.{◌≡◌, ◌+◌, ◌∷◌, ◌∙◌, Some, length, refl, ap, sym, arith}
+use Rattle.std.proofs.Common.{◌≡◌, ◌+◌, ◌∷◌, ◌∙◌, length, refl, ap, sym, arith}
 use Rattle.gomp_events.specs.declared.event.Event.TheVariants.{Start}
 use Rattle.gomp_events.specs.Tasks.{task_stack}
 use Rattle.gomp_ready.specs.Ready.{ReadyView}

@@ -6,6 +6,7 @@ use Rattle.gomp_team.specs.Moves.{events_part, holds_part, releases_part}
 use Rattle.gomp_team.specs.Seats.{seat_ask}
 use Rattle.gomp_team.specs.Seats.Tries.{Untried}
 use Rattle.gomp_team.proofs.Again.{waits_move_no_events, waits_move_no_holds, waits_move_no_releases}
+use Rattle.gomp_team.proofs.AnswerLaws.{answered_at_last}
 use Rattle.gomp_team.proofs.SeatMoves.{answered_then, asks_again, stays_longer, stays_on_ring, waited_again}
 use Rattle.gomp_team.proofs.team.SharedTeam.look_again.Goals as goal
 
@@ -27,6 +28,7 @@ returns-in_default g c =
       seat = answered_then ask c.args.parts.now.seat c.loop.parts.seat reply c.answer.new.parts.seat inv.5
           (asks_again c.args.self.now.team.icv.cancellation repeated call c.loop.parts.seat reply c.answer.new.parts.seat c.requires.again c.answer.ensures.seat);
       stays = stays_longer c.args.parts.now.seat c.loop.parts.seat c.answer.new.parts.seat inv.6 c.answer.ensures.stays;
+      answers = answered_at_last c.args.self.now.team.icv.cancellation repeated c.args.state.now.own call c.args.parts.now.seat c.loop.parts.seat reply c.requires.again inv.6.member c.answer.ensures.answers;
     }
 
 pub loop-preserved : goal.loop-preserved
