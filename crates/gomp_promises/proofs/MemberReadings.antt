@@ -72,7 +72,7 @@ no_test_waits (Some held) tests = tests
 -- a test of a lock never waits
 pub never_waits_at_a_test : (allowed : Bool) (own : OwnView) (number : ℕ) (seat : SeatView) → TeamAnswers allowed false own (Test number) seat Wait → ⊥
 never_waits_at_a_test allowed own number seat (inl (refusal, is)) = absurd (cc)
-never_waits_at_a_test allowed own number seat (inr (book, none, tests)) = no_test_waits _ tests
+never_waits_at_a_test allowed own number seat (inr answered) = no_test_waits _ answered.1.1
 
 -- Chunks
 
