@@ -17,7 +17,7 @@ fn last_value_fits(shape: &Shape) -> bool
 {
     let _numbers = (shape.start, shape.incr);
     let last = shape.start as i128 + (shape.trips - 1) as i128 * shape.incr as i128;
-    i64::MIN as i128 <= last && last <= i64::MAX as i128
+    i64::try_from(last).is_ok()
 }
 
 /// Whether a construct that is not refused can have this shape: a share is open in no other.
