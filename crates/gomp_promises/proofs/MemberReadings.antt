@@ -82,7 +82,7 @@ none_is_at_zero first zero = zero refl
 
 -- A script's region
 
--- a refusal that is printed is that of the fault which the region has left
+-- a refusal that is printed is that of some fault that the region may leave
 pub refusal_was_left : (icv : Variables) (script : Script) (text : List ℕ) (code : ℕ) → HasFaulted icv script text code →
     (tools : List NoTool) × (fault : RegionFault ProgramView NoTool)
     × ForksRegion script_program no_tool (record { icv = icv; regions = 0 }) (programs_from script 0 0 (program_count icv script.team)) tools (Err fault)
