@@ -82,7 +82,7 @@ where
     ensures region { LeavesOutermost P.Program T.Tool
         (team_of ground.terms, forked.progs.items, forked.tools.items)
         (counted_in opened.old.share, counted_in opened.new.share) result.result }
-    ensures members { crew.new ≤ max crew.old (vec_len forked.progs - 1) }
+    ensures crew { crew.new ≤ max crew.old (vec_len forked.progs - 1) }
     ensures held { opened.new.share.held.parts ≡ opened.old.share.held.parts }
     ensures freed { opened.new.share.freed.parts ≡ opened.old.share.freed.parts }
     ensures ledger { ComesBack L.parts result.ledger }
@@ -148,7 +148,7 @@ where
     requires events { MAX_MEMBERS < L.parts }
     requires held { REGION_PARTS < share.old.held.parts }
     requires freed { REGION_PARTS < share.old.freed.parts }
-    ensures members { crew.new ≤ max crew.old (vec_len forked.progs - 1) }
+    ensures crew { crew.new ≤ max crew.old (vec_len forked.progs - 1) }
     ensures ledger { ComesBack L.parts result.ledger }
     ensures region { LeavesOutermost P.Program T.Tool
         (team_of terms, forked.progs.items, forked.tools.items)

@@ -14,6 +14,7 @@ use Rattle.gomp_model.specs.Calls.{row_of}
 use Rattle.gomp_dispatch.specs.declared.leaving.Leaving.{Leaving}
 use Rattle.gomp_dispatch.specs.Leaves.{leaving_after}
 use Rattle.gomp_member.specs.Own.{OwnView, executes_implicit, is_free, is_next_reply, names_after, own_after, own_meant, passes_end}
+use Rattle.gomp_member.specs.Refused.{own_refusal, task_refusal}
 use Rattle.gomp_member.specs.Tests.{KnowsPast, own_tests}
 use Rattle.gomp_member.proofs.OwnTests.{leaving_answers, stop_answers}
 
@@ -65,6 +66,22 @@ free_is_never_refused own call p free made knows =
     let known = known_of_free own free in
     leaving_answers call (λ is. absurd (let first = ap is_resume is in cc)) (λ is. absurd (cc)) own p (knows.ended ∙ known.inside) (ap (λ (waits : Waits). is_some waits.open_call) knows.waits ∙ known.waits)
     ∙ no_leaving_test call own p (leaves_nothing_then own p known knows)
+
+-- nor is it by itself, whatever its place says,
+pub free_refuses_itself_nothing : (placed : Bool) (own : OwnView) (call : Call) → is_free own ≡ true → is_resume call ≡ false → own_refusal placed own call ≡ None
+free_refuses_itself_nothing placed own Resume free made = absurd (cc)
+free_refuses_itself_nothing placed own Stop free made = rw ((known_of_free own free).inside) refl
+free_refuses_itself_nothing placed own call free made =
+    let known = known_of_free own free in
+    rw (known.inside, known.waits, known.leaves_region, known.leaves_share, known.leaves_task) refl
+
+-- it leaves no share,
+pub free_leaves_no_share : (own : OwnView) → is_free own ≡ true → own.leaves_share ≡ false
+free_leaves_no_share own free = (known_of_free own free).leaves_share
+
+-- and it executes its implicit task
+pub free_is_in_no_task : (own : OwnView) → is_free own ≡ true → task_refusal own ≡ None
+free_is_in_no_task own free = rw ((all_hold own.ended (is_some own.waits.open_call) (executes_implicit own) (own.leaving.region || (own.leaves_share || own.leaving.task)) free).2) refl
 
 -- What the next piece moves: nothing
 

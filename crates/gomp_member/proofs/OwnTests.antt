@@ -1,6 +1,6 @@
 -- The tests that a member's own knowledge decides, in the order of their numbers.
 use Rattle.std.proofs.Common.{◌≡◌, Bool, true, false, List, [], ◌∷◌, Some, None, refl, ◌∙◌}
-use Rattle.std.specs.Prelude.{is_some, is_none, ◌&&◌}
+use Rattle.std.specs.Prelude.{is_some, is_none, ◌&&◌, if◌then◌else◌}
 use Rattle.gomp_types.specs.declared.call.Call.{Call}
 use Rattle.gomp_types.specs.declared.call.Call.TheVariants.{Resume, Stop}
 use Rattle.gomp_types.specs.declared.refusal.Refusal.TheVariants.{Ended, Waiting, Leaving, NotInside}
@@ -13,6 +13,7 @@ use Rattle.gomp_model.specs.Calls.{row_of}
 use Rattle.gomp_events.specs.Cancels.{is_leaving}
 use Rattle.std.specs.Prelude.{not}
 use Rattle.gomp_member.specs.Own.{OwnView, own_meant}
+use Rattle.gomp_member.specs.Refused.{leaves_by, leaves_something, own_refusal}
 use Rattle.gomp_member.specs.Tests.{inside_region_tests, own_tests}
 
 -- a test that holds, if its refusal comes before those of the others
@@ -100,3 +101,18 @@ leaving_stops false = refl
 
 pub stop_answers : (own : OwnView) (p : Past) → has_left_region own.number p.events ≡ false → least (own_tests own Stop p) ≡ None
 stop_answers own p inside = failing_test_aside _ (inside_region_tests own Stop p) inside ∙ leaving_stops (is_leaving own.number p.events)
+
+-- By what it knows alone
+
+-- a wait refuses,
+pub waiting_is_known : (placed : Bool) (call : Call) → (call ≡ Resume → ⊥) → (call ≡ Stop → ⊥) → (own : OwnView) → own.ended ≡ false → is_some own.waits.open_call ≡ true → own_refusal placed own call ≡ Some Waiting
+waiting_is_known placed Resume resumes stops own inside waits = absurd (resumes refl)
+waiting_is_known placed Stop resumes stops own inside waits = absurd (stops refl)
+waiting_is_known placed call resumes stops own inside waits = rw (inside, waits) refl
+
+-- and without one what the member leaves
+pub leaving_is_known : (placed : Bool) (call : Call) → (call ≡ Resume → ⊥) → (call ≡ Stop → ⊥) → (own : OwnView) → own.ended ≡ false → is_some own.waits.open_call ≡ false →
+    own_refusal placed own call ≡ (if leaves_something own && not (leaves_by placed own call) then Some Leaving else None)
+leaving_is_known placed Resume resumes stops own inside waits = absurd (resumes refl)
+leaving_is_known placed Stop resumes stops own inside waits = absurd (stops refl)
+leaving_is_known placed call resumes stops own inside waits = rw (inside, waits) refl

@@ -1,3 +1,4 @@
 pub mod Own
+pub mod Refused
 pub mod Rooms
 pub mod Tests

@@ -1,8 +1,8 @@
 //! Why a member's call is refused by what the member knows of itself.
 
-ghost use Rattle.std.specs.Prelude.{ℕ, ◌≡◌, ◌≢◌, ◌&&◌, ◌||◌, not, is_some, is_none, false, [], ◌∷◌, Some};
+ghost use Rattle.std.specs.Prelude.{ℕ, ◌≡◌, ◌≢◌, ◌&&◌, not, is_some, is_none, if◌then◌else◌, false, [], ◌∷◌, Some, None};
 ghost use Rattle.gomp_types.specs.declared.call.Server.TheVariants.{Book, Shares};
-ghost use Rattle.gomp_types.specs.declared.refusal.Refusal.TheVariants.{NotInside, Mismatch};
+ghost use Rattle.gomp_types.specs.declared.refusal.Refusal.TheVariants.{Leaving, NotInside, Mismatch};
 ghost use Rattle.gomp_types.specs.Least.{least};
 ghost use Rattle.gomp_types.specs.Servers.{served_by};
 ghost use Rattle.gomp_model.specs.Past.{Past};
@@ -11,6 +11,7 @@ ghost use Rattle.gomp_model.specs.Calls.{row_of};
 ghost use Rattle.gomp_locks.specs.CriticalNames.{critical_tests};
 ghost use Rattle.gomp_locks.specs.Holders.{asker, holds_critical};
 ghost use Rattle.gomp_member.specs.Own.{executes_implicit, is_free};
+ghost use Rattle.gomp_member.specs.Refused.{leaves_by, leaves_share_alone, leaves_something, own_refusal, task_refusal, tests_names};
 ghost use Rattle.gomp_member.specs.Tests.{KnowsPast, LetsEnd, own_tests};
 
 use crate::state::MemberState;
@@ -24,6 +25,7 @@ impl MemberState {
     /// only if the member leaves that (OpenMP API 5.2, section 16.1).
     #[inline(always)]
     pub fn own_refusal(&self, call: &Call, placed: bool) -> Option<Refusal>
+        ensures is { result ≡ own_refusal placed self.now.own call.now }
         ensures least { (p : Past) → KnowsPast self.now.own p →
             LetsEnd placed self.now.own (row_of call.now) p →
             result ≡ least (own_tests self.now.own call.now p) }
@@ -61,6 +63,8 @@ impl MemberState {
     /// Why a member that may leave something does not make the call.
     #[inline(always)]
     fn leaving_refusal(&self, call: &Call, placed: bool) -> Option<Refusal>
+        ensures is { result ≡ (if leaves_something self.now.own
+            && not (leaves_by placed self.now.own call.now) then Some Leaving else None) }
         ensures least { (p : Past) → KnowsPast self.now.own p →
             LetsEnd placed self.now.own (row_of call.now) p →
             result ≡ least (leaving_tests false (row_of call.now) self.now.own.number p) }
@@ -77,6 +81,7 @@ impl MemberState {
     #[inline(always)]
     pub fn task_refusal(&self, call: &Call) -> Option<Refusal>
         requires served { served_by call.now ≡ Shares }
+        ensures is { result ≡ task_refusal self.now.own }
         ensures least { (p : Past) → KnowsPast self.now.own p →
             result ≡ least ((row_of call.now).by_task self.now.own.number p) }
         ensures own { result ≢ Some Mismatch }
@@ -107,8 +112,7 @@ impl MemberState {
     /// Whether it leaves something.
     #[inline(always)]
     fn is_leaving(&self) -> bool
-        ensures { result ≡ (self.now.own.leaving.region
-            || (self.now.own.leaves_share || self.now.own.leaving.task)) }
+        ensures { result ≡ leaves_something self.now.own }
     {
         self.leaving().region || self.leaves_share() || self.leaving().task
     }
@@ -116,6 +120,7 @@ impl MemberState {
     /// Whether it may make the call though it does: the call ends what it leaves, or gives up what it
     /// holds.
     fn lets_leave(&self, call: &Call, placed: bool) -> bool
+        ensures is { result ≡ leaves_by placed self.now.own call.now }
         ensures lets { (p : Past) → KnowsPast self.now.own p →
             LetsEnd placed self.now.own (row_of call.now) p →
             result ≡ (row_of call.now).lets_leave self.now.own.number p.events }
@@ -132,8 +137,7 @@ impl MemberState {
 
     /// Whether it leaves its share, and that alone.
     fn leaves_share_alone(&self) -> bool
-        ensures { result ≡ (self.now.own.leaves_share
-            && not (self.now.own.leaving.region || self.now.own.leaving.task)) }
+        ensures { result ≡ leaves_share_alone self.now.own }
     {
         let leaving = self.leaving();
         self.leaves_share() && !(leaving.region || leaving.task)
@@ -144,6 +148,7 @@ impl MemberState {
 /// section 17.1). Of names and locks themselves the book has its own tests.
 pub fn tests_critical(call: &Call) -> bool
     requires aside { served_by call.now ≢ Book }
+    ensures is { result ≡ tests_names call.now }
     ensures tests { (m : ℕ) (p : Past) → least ((row_of call.now).by_team m p) ≡
         least (critical_tests (result && holds_critical (asker m p.events) p.events)) }
 {

@@ -24,7 +24,8 @@ use Rattle.gomp_team_shares.specs.Constructs.{construct_tests}
 use Rattle.gomp_team_shares.specs.declared.start.ShareStart.{ShareStart}
 use Rattle.gomp_seat_calls.specs.Alone.{admits_part, ends_alone, admits_by_turn, sections_alone, admits_start}
 use Rattle.gomp_member.specs.Own.{is_free}
-use Rattle.gomp_team.specs.Members.{MemberView, cuts, is_given, may_begin_by_turn, may_claim_section_alone, may_end_alone, may_end_part_alone, may_start_alone, may_take_by_turn}
+use Rattle.gomp_team.specs.Seats.{is_given}
+use Rattle.gomp_team.specs.Members.{MemberView, cuts, may_begin_by_turn, may_claim_section_alone, may_end_alone, may_end_part_alone, may_start_alone, may_take_by_turn}
 
 -- Sections
 

@@ -1,5 +1,5 @@
 -- What no call of a member by its seat and the board answers or does: what the clauses of an end, of a start and of waited-for words forbid, of any seats, boards, refusals and replies.
-use Rattle.std.proofs.Common.{◌≡◌, ◌≢◌, ℕ, ◌<◌, Bool, true, false, List, Option, Some, None, refl, ap, sym, ◌∙◌, arith, length, nat_le, if◌then◌else◌}
+use Rattle.std.proofs.Common.{◌≡◌, ◌≢◌, ℕ, ◌<◌, inl, inr, Bool, true, false, List, Option, Some, None, refl, ap, sym, ◌∙◌, arith, length, nat_le, if◌then◌else◌}
 use Rattle.gomp_types.specs.declared.loop_desc.EndKind.{EndKind}
 use Rattle.gomp_types.specs.declared.refusal.Refusal.{Refusal}
 use Rattle.gomp_types.specs.declared.reply.Reply.{Reply}
@@ -26,7 +26,8 @@ use Rattle.gomp_seat_calls.specs.Starts.{StartsBySeat}
 use Rattle.gomp_seat_team.specs.Moved.{TeamMoved}
 use Rattle.gomp_seat_team.specs.Arrivals.{EndAsked, EndsShare, FindsPlace}
 use Rattle.gomp_seat_team.specs.Inside.{RefusesInsideBySeat, ServesInsideBySeat}
-use Rattle.gomp_seat_team.specs.Starts.{EntersBySeat, GivesWords, TakesWords, IsCutReply, SeatStart, StartsShare}
+use Rattle.gomp_seat_team.specs.Starts.{AnswersNote, EntersBySeat, GivesWords, IsStartRefusedFor, TakesWords, IsCutReply, SeatStart, StartsShare}
+use Rattle.gomp_types.specs.declared.refusal.Refusal.TheVariants.{Mismatch}
 
 -- in a cancelled region no answer is to wait
 never_wait : (served : Reply) → Wait ≡ cut_reply true served → ⊥
@@ -112,6 +113,20 @@ no_start_without_its_room start op move reply enters none = none enters.kept ent
 
 pub no_start_but_by_the_seat : (start : ShareStart) (op : Op) (move : TeamMoved) (reply : Reply) → EntersBySeat start op move reply → ((served : Reply) (between : SeatView) → StartsBySeat start move.before served between → ⊥) → ⊥
 no_start_but_by_the_seat start op move reply enters none = none enters.served enters.between enters.starts
+
+-- none is refused of which nothing was found, by no answer of a board, in a share that is no other than the team's
+pub no_start_refused_for_nothing : (asked : SeatStart) (move : TeamMoved) (refusal : Refusal) (starts : StartsShare asked move (Refused refusal)) → lesser asked.found starts.place ≡ None
+    → (AnswersNumber (reserve_op asked.start asked.repeated) move.before.member move.view move.after (Refused refusal) → ⊥)
+    → ((between : SeatView) → StartsBySeat asked.start move.before (Refused Mismatch) between → ⊥)
+    → ((served : Reply) (between : SeatView) → StartsBySeat asked.start move.before served between → AnswersNote between (Refused refusal) → ⊥) → ⊥
+no_start_refused_for_nothing asked move refusal starts none unasked same unnoted = by (lesser asked.found starts.place) none (starts.cause refusal refl)
+  where
+    by : (found : Option Refusal) → found ≡ None → IsStartRefusedFor asked.start found (reserve_op asked.start asked.repeated) move (Refused refusal) → ⊥
+    by (Some first) none cause = absurd (cc)
+    by None none (inl some) = absurd (cc)
+    by None none (inr (inl answers)) = unasked answers
+    by None none (inr (inr (inl other))) = same other.between other.differs
+    by None none (inr (inr (inr entered))) = unnoted entered.served entered.between entered.starts entered.notes
 
 -- and a member that goes on with no words of others changes nothing more, and does not wait in a cancelled region
 pub no_change_behind_a_start : (served : Reply) (move : TeamMoved) (reply : Reply) → IsCutReply served move reply → move.now ≢ move.before → ⊥

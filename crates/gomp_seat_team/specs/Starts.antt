@@ -1,7 +1,8 @@
 -- The start of a construct that is a share, by a member's own seat, under the lock of the board. (own; OpenMP API 5.2, sections 11.1, 11.3, 11.5 and 5.7.2)
-use Rattle.std.specs.Prelude.{ℕ, ◌≡◌, ◌<◌, Bool, true, false, List, Option, Some, None}
+use Rattle.std.specs.Prelude.{ℕ, ◌≡◌, ◌<◌, ◌⊎◌, Bool, true, false, List, reverse, Option, Some, None, IsSome}
 use Rattle.gomp_types.specs.declared.limits.Limits.{Limits}
 use Rattle.gomp_types.specs.declared.refusal.Refusal.{Refusal}
+use Rattle.gomp_types.specs.declared.refusal.Refusal.TheVariants.{Mismatch}
 use Rattle.gomp_types.specs.declared.reply.Reply.{Reply}
 use Rattle.gomp_types.specs.declared.reply.Reply.TheVariants.{Copied, Finished, Refused, Wait}
 use Rattle.gomp_types.specs.Least.{lesser}
@@ -16,7 +17,7 @@ use Rattle.gomp_waits.specs.Waits.{WaitBoardView}
 use Rattle.gomp_dispatch.specs.Serves.{cut_reply}
 use Rattle.gomp_team_board.specs.Locked.{AnswersNumber, locked_refusal, team_size}
 use Rattle.gomp_team_calls.specs.Arrivals.{IsAccepted}
-use Rattle.gomp_team_calls.specs.Starts.{reserve_op}
+use Rattle.gomp_team_calls.specs.Starts.{LesserAnswers, reserve_op}
 use Rattle.gomp_team_shares.specs.declared.start.ShareStart.{ShareStart}
 use Rattle.gomp_team_shares.specs.Constructs.{construct_start_tests}
 use Rattle.gomp_ring.specs.RingSeats.{SeatView}
@@ -47,10 +48,47 @@ pub record TakesWords (moved : TeamMoved) (reply : Reply) : Type 0 where
   pub is_cancelled : EachStands (Stands moved.view.board) (λ k. is_cancelled k ≡ cancelled)
   pub gives : GivesWords words cancelled moved reply
 
--- a member that waits for words in its share asks the board again, and goes on; of what its caller found and of the board the least by number answers
+-- Causes
+
+-- a board that has words for the share in which a member with this seat waits for them, and is to note that it is given these, has answered so
+pub record AnswersNote (seat : SeatView) (reply : Reply) : Type 0 where
+  pub waits : awaits_payload seat.seen ≡ true
+  pub words : List ℕ
+  pub board : WaitBoardView
+  pub left : WaitBoardView
+  pub known : Stands board.board (reverse board.board.history)
+  pub has_words : HasPayload board.board (share_number seat.seen.current) (Some words)
+  pub answer : AnswersNumber (Got (share_number seat.seen.current) words) seat.member board left reply
+
+-- why a member that waits for words in its share is refused so: its caller found a refusal; or the board has answered so, asked whether it is refused at all, or when it was to note the words
+abbrev pub IsRefusedFor : Option Refusal → Op → TeamMoved → Reply → Type 0
+IsRefusedFor found op move reply = IsSome found ⊎ AnswersNumber op move.before.member move.view move.after reply ⊎ AnswersNote move.before reply
+
+-- the board keeps the room of a start, but the team's share of this number is another construct: that refuses it, or the board, which is asked again by a lesser number
+pub record DiffersFromTeams (start : ShareStart) (op : Op) (move : TeamMoved) (reply : Reply) : Type 0 where
+  pub between : SeatView
+  pub differs : StartsBySeat start move.before (Refused Mismatch) between
+  pub kept : WaitBoardView
+  pub reserves : AnswersNumber op move.before.member move.view kept Finished
+  pub known : Stands kept.board (reverse kept.board.history)
+  pub answers : move.before.member < team_size kept → LesserAnswers Mismatch (locked_refusal move.before.member kept op) kept.board reply
+
+-- a member has entered its share, and waits there for words: the board that was to note these has answered so
+pub record EntersUnnoted (start : ShareStart) (move : TeamMoved) (reply : Reply) : Type 0 where
+  pub served : Reply
+  pub between : SeatView
+  pub starts : StartsBySeat start move.before served between
+  pub notes : AnswersNote between reply
+
+-- why a member that starts a construct is refused so: its caller or its place found a refusal; the board has answered so that was asked for the room; the team's share is another; or the words of the share that it has entered could not be noted
+abbrev pub IsStartRefusedFor : ShareStart → Option Refusal → Op → TeamMoved → Reply → Type 0
+IsStartRefusedFor start found op move reply = IsSome found ⊎ AnswersNumber op move.before.member move.view move.after reply ⊎ DiffersFromTeams start op move reply ⊎ EntersUnnoted start move reply
+
+-- a member that waits for words in its share asks the board for no more room, and goes on; of what its caller found and of the board the least by number answers
 pub record GoesOnWaiting (found : Option Refusal) (move : TeamMoved) (reply : Reply) : Type 0 where
   pub refused : move.before.member < team_size move.view → RefusesLeast found (Reserve 0) move reply
   pub goes_on : IsAccepted reply → (kept : WaitBoardView) × AnswersNumber (Reserve 0) move.before.member move.view kept Finished × TakesWords (moved move.before move.now kept move.after) reply
+  pub cause : (refusal : Refusal) → reply ≡ Refused refusal → IsRefusedFor found (Reserve 0) move reply
 
 -- Starts
 
@@ -96,3 +134,5 @@ pub record StartsShare (asked : SeatStart) (move : TeamMoved) (reply : Reply) : 
   -- of what its caller found, of that and of the board the least by number answers
   pub refused : move.before.member < team_size move.view → RefusesLeast (lesser asked.found place) (reserve_op asked.start asked.repeated) move reply
   pub enters : IsAccepted reply → EntersBySeat asked.start (reserve_op asked.start asked.repeated) move reply
+  -- and it is refused for no other cause than these, or that the team's share of this number is another
+  pub cause : (refusal : Refusal) → reply ≡ Refused refusal → IsStartRefusedFor asked.start (lesser asked.found place) (reserve_op asked.start asked.repeated) move reply

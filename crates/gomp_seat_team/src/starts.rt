@@ -3,7 +3,7 @@
 //! OpenMP API 5.2, sections 11.1, 11.3, 11.5 and 5.7.2; libgomp's `GOMP_loop_start`, `GOMP_sections_start`, `GOMP_single_start` and
 //! `GOMP_single_copy_start`.
 
-ghost use Rattle.std.specs.Prelude.{ℕ, ◌≡◌, ◌≢◌, ◌<◌, true, Some, None};
+ghost use Rattle.std.specs.Prelude.{ℕ, ◌≡◌, ◌≢◌, ◌<◌, true, IsSome, Some, None};
 ghost use Rattle.gomp_types.specs.declared.refusal.Refusal.{Refusal};
 ghost use Rattle.gomp_types.specs.declared.refusal.Refusal.TheVariants.{Mismatch};
 ghost use Rattle.gomp_types.specs.declared.reply.Reply.TheVariants.{Refused};
@@ -19,7 +19,7 @@ ghost use Rattle.gomp_ring.specs.RingSeats.{IsOnRing};
 ghost use Rattle.gomp_seat_calls.specs.Starts.{IsStarted, awaits_payload};
 ghost use Rattle.gomp_seat_calls.specs.Stays.{LeavesShare, StaysSeat};
 ghost use Rattle.gomp_seat_team.specs.Moved.{moved};
-ghost use Rattle.gomp_seat_team.specs.Starts.{EntersBySeat, GoesOnBy, GoesOnWaiting, RefusesLeast, StartsShare, TakesWords, seat_start};
+ghost use Rattle.gomp_seat_team.specs.Starts.{AnswersNote, EntersBySeat, GoesOnBy, GoesOnWaiting, IsStartRefusedFor, RefusesLeast, StartsShare, TakesWords, seat_start};
 
 use crate::words::share_of;
 use gomp_board::Op;
@@ -54,6 +54,7 @@ pub fn start_share<L: Ledger>(
     requires own { found ≢ Some Mismatch }
     ensures starts { StartsShare (seat_start start.now repeated limits.now found)
         (moved seat.old seat.new board.old board.new) result.reply }
+    ensures refused { IsSome found → (refusal : Refusal) × (result.reply ≡ Refused refusal) }
     ensures stays { StaysSeat seat.old seat.new }
     ensures counts { (k : ℕ) →
         counts_in k board.new.board.history ≡ counts_in k board.old.board.history }
@@ -98,6 +99,9 @@ fn enter<L: Ledger>(
         (moved seat.old seat.new board.old board.new) result.reply }
     ensures enters { IsAccepted result.reply → EntersBySeat start.now op
         (moved seat.old seat.new board.old board.new) result.reply }
+    ensures cause { (refusal : Refusal) → result.reply ≡ Refused refusal →
+        IsStartRefusedFor start.now None op (moved seat.old seat.new board.old board.new)
+        result.reply }
     ensures stays { StaysSeat seat.old seat.new }
     ensures counts { (k : ℕ) →
         counts_in k board.new.board.history ≡ counts_in k board.old.board.history }
@@ -110,6 +114,7 @@ fn enter<L: Ledger>(
             reply: Reply::Refused(refusal),
         };
     }
+    let _ = board.history(); // for clause cause
     let entered = seat.entered();
     match start_admitted(ring, seat, start, shape) {
         Reply::Refused(_) => {
@@ -134,6 +139,8 @@ fn go_on<L: Ledger>(
     requires accepted { IsAccepted reply }
     ensures goes_on { IsAccepted result.reply → GoesOnBy (awaits_payload seat.old.seen)
         reply (moved seat.old seat.new board.old board.new) result.reply }
+    ensures cause { (refusal : Refusal) → result.reply ≡ Refused refusal →
+        AnswersNote seat.old result.reply }
     ensures stays { StaysSeat seat.old seat.new }
     ensures counts { (k : ℕ) →
         counts_in k board.new.board.history ≡ counts_in k board.old.board.history }
@@ -163,6 +170,7 @@ pub fn go_on_waiting<L: Ledger>(
     requires waits { awaits_payload seat.old.seen ≡ true }
     ensures goes_on { GoesOnWaiting found (moved seat.old seat.new board.old board.new)
         result.reply }
+    ensures refused { IsSome found → (refusal : Refusal) × (result.reply ≡ Refused refusal) }
     ensures stays { StaysSeat seat.old seat.new }
     ensures counts { (k : ℕ) →
         counts_in k board.new.board.history ≡ counts_in k board.old.board.history }
@@ -197,12 +205,15 @@ fn copy_words<L: Ledger>(
     ensures takes { IsAccepted result →
         TakesWords (moved seat.old seat.new board.old board.new) result }
     ensures kept { (refusal : Refusal) → result ≡ Refused refusal → seat.new ≡ seat.old }
+    ensures cause { (refusal : Refusal) → result ≡ Refused refusal →
+        AnswersNote seat.old result }
     ensures matches { result ≢ Refused Mismatch }
     ensures stays { StaysSeat seat.old seat.new }
     ensures counts { (k : ℕ) →
         counts_in k board.new.board.history ≡ counts_in k board.old.board.history }
     ensures part { part.new ≡ start_part result part.old }
 {
+    let _ = board.history(); // for clause cause
     let share = share_of(seat);
     let cancelled = board.is_cancelled();
     match words_of(board, share) {

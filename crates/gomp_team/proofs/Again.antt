@@ -1,13 +1,14 @@
--- A further try of a call that waits moves no part, if it is answered to wait.
-use Rattle.std.proofs.Common.{ℕ, ◌≡◌, ◌+◌, Bool, true, false, [], Option, Some, None, refl, arith}
+-- A further try of a call that waits moves no part, if it is answered to wait; one of a resume that has nothing to repeat is answered as the first.
+use Rattle.std.proofs.Common.{ℕ, ◌≡◌, ◌+◌, Bool, true, false, [], Option, Some, None, inr, refl, subst, sym, arith}
 use Rattle.std.specs.Prelude.{◌||◌}
 use Rattle.gomp_types.specs.declared.call.Call.{Call}
 use Rattle.gomp_types.specs.declared.call.Call.TheVariants as calls
 use Rattle.gomp_types.specs.declared.call.Server.{Server}
 use Rattle.gomp_types.specs.declared.call.Server.TheVariants.{Shares, Board, Book, Team}
+use Rattle.gomp_types.specs.declared.reply.Reply.{Reply}
 use Rattle.gomp_types.specs.declared.reply.Reply.TheVariants.{Wait}
 use Rattle.gomp_types.specs.declared.shape.Shape.{Shape}
-use Rattle.gomp_types.specs.Resumes.{is_resume}
+use Rattle.gomp_types.specs.Resumes.{call_meant, is_resume}
 use Rattle.gomp_types.specs.Servers.{served_by}
 use Rattle.gomp_events.specs.declared.event.Arrival.{Arrival}
 use Rattle.gomp_board.specs.declared.op.Op.{Op}
@@ -19,6 +20,10 @@ use Rattle.gomp_locks.specs.BookCalls.BookCall.{start_critical}
 use Rattle.gomp_model.specs.Calls.{row_of}
 use Rattle.gomp_team_board.specs.Parts.{PartView, part_of, part_after}
 use Rattle.gomp_team_book.specs.Parts.{BookPartView, counted_more}
+use Rattle.gomp_member.specs.Own.{OwnView, own_meant}
+use Rattle.gomp_ring.specs.RingSeats.{SeatView}
+use Rattle.gomp_team.specs.Answers.{AnswersWithRoom, TeamAnswers}
+use Rattle.gomp_team.proofs.AnswerLaws.{resume_repeats_nothing}
 use Rattle.gomp_team.specs.Moves.{made_plainly, moved_by_op, moved_by_start, arriving_op, moved_together, moved_by, events_part, book_call, gained_part, lost_part, holds_part, releases_part}
 
 -- The part of the team's events
@@ -114,3 +119,8 @@ waits_move_no_holds repeated call part = gained_on_wait (book_call repeated call
 
 pub waits_move_no_releases : (repeated : Bool) (call : Call) (part : BookPartView) → releases_part repeated call Wait part ≡ part
 waits_move_no_releases repeated call part = lost_on_wait (book_call repeated call) part
+
+-- a resume that has nothing to repeat is answered as one that is made
+pub nothing_answered_again : (allowed : Bool) (own : OwnView) (seat : SeatView) (reply : Reply) → own.waits.open_call ≡ None → TeamAnswers allowed false own calls.Resume seat reply → AnswersWithRoom true allowed true own (own_meant own calls.Resume) seat reply
+nothing_answered_again allowed own seat reply none answered =
+    subst (λ (waiting : Option Call). AnswersWithRoom true allowed true own (call_meant calls.Resume waiting) seat reply) (sym none) (inr (resume_repeats_nothing allowed own seat seat reply answered))

@@ -51,4 +51,4 @@ pub called_alone : {T : Type 0} (gives : T → Record → T → Type 0) (reply :
     → HasSameParts between after
     → Called gives LoopNext reply before after
 called_alone gives reply before between after alone next is answers stays own told same =
-    called_unnoted gives LoopNext (Next Loop) reply before between after refl refl refl refl refl is answers stays (next_moves_nothing reply LoopNext before.own next (free_claims_alone before alone)) own told same
+    called_unnoted gives LoopNext (Next Loop) reply before between after refl refl refl refl refl (free_claims_alone before alone) is answers stays (next_moves_nothing reply LoopNext before.own next (free_claims_alone before alone)) own told same

@@ -27,10 +27,11 @@ use Rattle.gomp_seat_calls.specs.Starts.{StartsBySeat, awaits_payload}
 use Rattle.gomp_seat_calls.specs.Stays.{StaysSeat}
 use Rattle.gomp_team.specs.Answers.{TeamAnswers}
 use Rattle.gomp_team.specs.Moves.{events_part, holds_part, releases_part}
-use Rattle.gomp_team.specs.Members.{MemberView, AsksItsShare, Called, HasSameParts, is_given}
-use Rattle.gomp_team.specs.Seats.{MovesBy, ask_of_shares, inside_of, seat_ask, start_of}
+use Rattle.gomp_team.specs.Members.{MemberView, AsksItsShare, Called, HasSameParts}
+use Rattle.gomp_team.specs.Seats.{MovesBy, ask_of_shares, inside_of, seat_ask, start_of, is_given}
 use Rattle.gomp_team.specs.Seats.SeatAsk.{Inside, Starts}
-use Rattle.gomp_team.proofs.AnswerLaws.{shares_answer_any}
+use Rattle.gomp_team_calls.specs.Starts.{start_room}
+use Rattle.gomp_team.proofs.AnswerLaws.{free_inside_answered, free_start_answered}
 use Rattle.gomp_team.proofs.Meant.{call_means_itself}
 use Rattle.gomp_team.proofs.MoveLaws.{inside_call_moves_no_events, other_calls_move_no_holds, other_calls_move_no_releases}
 use Rattle.gomp_team.proofs.SeatMoves.{answered_once}
@@ -57,30 +58,35 @@ its_share (calls.Point kinds.Sections) asks = record { first = refl; served = re
 its_share (calls.Point kind) asks = absurd (cc)
 its_share call asks = absurd asks
 
+pub its_share_is_served : (call : Call) → AsksItsShare call → served_by call ≡ Shares
+its_share_is_served call asks = (its_share call asks).served
+
+pub its_share_is_no_resume : (call : Call) → AsksItsShare call → is_resume call ≡ false
+its_share_is_no_resume call asks = (its_share call asks).first
+
 -- its seat is asked this
 pub asked_inside : (allowed : Bool) (call : Call) (inside : InsideCall) (before : SeatView) (reply : Reply) (after : SeatView)
     → AsksItsShare call → inside_of allowed call ≡ Some inside → MovesBy (Inside inside) before reply after → MovesBy (seat_ask allowed false call) before reply after
 asked_inside allowed call inside before reply after asks is moves =
     subst (λ ask. MovesBy ask before reply after) (sym ((its_share call asks).asks allowed ∙ ap (ask_of_shares false None) is)) moves
 
--- a call that is no resume, asks neither board nor book, and by this reply moves no part of a ledger
+-- a call that is no resume, and by this reply moves no part of a ledger
 record MovesNoPart (call : Call) (reply : Reply) : Type 0 where
   first : is_resume call ≡ false
-  asks : (allowed : Bool) (own : OwnView) (seat : SeatView) → TeamAnswers allowed false own call seat reply
   events : (part : PartView) → events_part false call reply part ≡ part
   held : (part : BookPartView) → holds_part false call reply part ≡ part
   freed : (part : BookPartView) → releases_part false call reply part ≡ part
 
 -- a member whose seat answered such a call, and that took note of that
 called_from : {T : Type 0} (gives : T → Record → T → Type 0) (call : Call) (reply : Reply) (before between after : MemberView T)
-    → MovesNoPart call reply
+    → MovesNoPart call reply → TeamAnswers before.icv.cancellation false before.own call before.seat reply
     → between ≡ record before { seat = between.seat }
     → MovesBy (seat_ask before.icv.cancellation false call) before.seat reply between.seat → StaysSeat before.seat between.seat
     → after.own ≡ own_after reply call between.own
     → AfterEach gives between.tool (records_of (own_meant between.own call) true reply) after.tool
     → HasSameParts between after
     → Called gives call reply before after
-called_from gives call reply before between after of is moves stays noted told same =
+called_from gives call reply before between after of answers is moves stays noted told same =
     let means : own_meant before.own call ≡ call = call_means_itself call before.own of.first in
     let own : between.own ≡ before.own = ap (λ m. m.own) is in
     record {
@@ -90,7 +96,7 @@ called_from gives call reply before between after of is moves stays noted told s
       freed = (same.freed ∙ ap (λ m. m.freed) is) ∙ sym (rw (of.first, means) (of.freed before.freed));
       seat = rw (of.first, means, same.seat) (answered_once false (seat_ask before.icv.cancellation false call) before.seat reply between.seat moves);
       stays = rw same.seat stays;
-      answers = rw (of.first, means) (of.asks before.icv.cancellation before.own before.seat);
+      answers = rw (of.first, means) (inr answers);
       icv = same.icv ∙ ap (λ m. m.icv) is;
       ring = same.ring ∙ ap (λ m. m.ring) is;
       tool = rw (of.first, sym (ap (λ m. m.tool) is), sym own) told;
@@ -98,16 +104,16 @@ called_from gives call reply before between after of is moves stays noted told s
 
 -- so of a call on the share that its member is in
 pub called_by_seat : {T : Type 0} (gives : T → Record → T → Type 0) (call : Call) (reply : Reply) (before between after : MemberView T)
-    → AsksItsShare call
+    → AsksItsShare call → TeamAnswers before.icv.cancellation false before.own call before.seat reply
     → between ≡ record before { seat = between.seat }
     → MovesBy (seat_ask before.icv.cancellation false call) before.seat reply between.seat → StaysSeat before.seat between.seat
     → after.own ≡ own_after reply call between.own
     → AfterEach gives between.tool (records_of (own_meant between.own call) true reply) after.tool
     → HasSameParts between after
     → Called gives call reply before after
-called_by_seat gives call reply before between after asks is moves stays noted told same =
+called_by_seat gives call reply before between after asks answers is moves stays noted told same =
     let of = its_share call asks in
-    called_from gives call reply before between after (record { first = of.first; asks = λ allowed own seat. shares_answer_any allowed false own call seat reply of.served; events = of.events reply; held = of.held reply; freed = of.freed reply }) is moves stays noted told same
+    called_from gives call reply before between after (record { first = of.first; events = of.events reply; held = of.held reply; freed = of.freed reply }) answers is moves stays noted told same
 
 -- Calls on the member's share of which it notes nothing
 
@@ -121,15 +127,14 @@ inside_moves_no_part call reply served none first =
     let other : served_by call ≢ Book = λ book. let both : ◌≡◌ {A = Server} Shares Book = sym served ∙ book in cc in
     record {
       first = first;
-      asks = λ allowed own seat. shares_answer_any allowed false own call seat reply served;
       events = λ part. inside_call_moves_no_events false call reply part served none;
       held = λ part. other_calls_move_no_holds false call reply part other;
       freed = λ part. other_calls_move_no_releases false call reply part other;
     }
 
--- a member whose seat answered it, and of which nothing moves by it, has called
+-- a member that nothing which it keeps refuses it, whose seat answered it, and of which nothing moves by it, has called
 pub called_unnoted : {T : Type 0} (gives : T → Record → T → Type 0) (call : Call) (inside : InsideCall) (reply : Reply) (before between after : MemberView T)
-    → served_by call ≡ Shares → start_of call ≡ None → (row_of call).starts ≡ None → is_resume call ≡ false → inside_of before.icv.cancellation call ≡ Some inside
+    → served_by call ≡ Shares → start_of call ≡ None → (row_of call).starts ≡ None → is_resume call ≡ false → inside_of before.icv.cancellation call ≡ Some inside → is_free before.own ≡ true
     → between ≡ record before { seat = between.seat }
     → AnswersInsideBySeat inside before.seat reply between.seat → StaysSeat before.seat between.seat
     → before.own ≡ own_after reply call before.own
@@ -137,11 +142,12 @@ pub called_unnoted : {T : Type 0} (gives : T → Record → T → Type 0) (call 
     → AfterEach gives between.tool (records_of call true reply) after.tool
     → HasSameParts between after
     → Called gives call reply before after
-called_unnoted gives call inside reply before between after served none starts first one is answers stays still own told same =
+called_unnoted gives call inside reply before between after served none starts first one free is answers stays still own told same =
     let answered : MovesBy (Inside inside) before.seat reply between.seat = inr (false, record { served = reply; answers = answers; answer = refl }) in
     let moves = subst (λ ask. MovesBy ask before.seat reply between.seat) (sym (inside_asks before.icv.cancellation call inside served none one)) answered in
     let kept : between.own ≡ before.own = ap (λ m. m.own) is in
-    called_from gives call reply before between after (inside_moves_no_part call reply served starts first) is moves stays
+    called_from gives call reply before between after (inside_moves_no_part call reply served starts first)
+    (free_inside_answered before.icv.cancellation before.own call inside false before.seat between.seat reply served one free first (record { served = reply; answers = answers; answer = refl })) is moves stays
     (own ∙ kept ∙ still ∙ sym (ap (own_after reply call) kept)) (rw (call_means_itself call between.own first) told) same
 
 -- Starts
@@ -177,10 +183,17 @@ given_starts_nothing construct (Executor executes) own given free = executor_mov
 given_starts_nothing construct reply own given free = absurd (cc)
 
 start_moves_no_part : (construct : ShareStart) (reply : Reply) → is_given reply ≡ true → MovesNoPart (call_of construct) reply
-start_moves_no_part (start.Loop desc) reply given = record { first = refl; asks = λ allowed own seat. tt; events = λ part. given_moves_no_part reply part given; held = λ part. refl; freed = λ part. refl }
-start_moves_no_part (start.Sections count end_kind) reply given = record { first = refl; asks = λ allowed own seat. tt; events = λ part. given_moves_no_part reply part given; held = λ part. refl; freed = λ part. refl }
-start_moves_no_part start.Single reply given = record { first = refl; asks = λ allowed own seat. tt; events = λ part. given_moves_no_part reply part given; held = λ part. refl; freed = λ part. refl }
-start_moves_no_part start.SingleCopy reply given = record { first = refl; asks = λ allowed own seat. tt; events = λ part. given_moves_no_part reply part given; held = λ part. refl; freed = λ part. refl }
+start_moves_no_part (start.Loop desc) reply given = record { first = refl; events = λ part. given_moves_no_part reply part given; held = λ part. refl; freed = λ part. refl }
+start_moves_no_part (start.Sections count end_kind) reply given = record { first = refl; events = λ part. given_moves_no_part reply part given; held = λ part. refl; freed = λ part. refl }
+start_moves_no_part start.Single reply given = record { first = refl; events = λ part. given_moves_no_part reply part given; held = λ part. refl; freed = λ part. refl }
+start_moves_no_part start.SingleCopy reply given = record { first = refl; events = λ part. given_moves_no_part reply part given; held = λ part. refl; freed = λ part. refl }
+
+-- nothing that is found refuses it to a member that nothing which it keeps refuses the call
+given_is_answered : (allowed : Bool) (construct : ShareStart) (own : OwnView) (seat : SeatView) (reply : Reply) → is_given reply ≡ true → start_room construct ≡ 0 → is_free own ≡ true → TeamAnswers allowed false own (call_of construct) seat reply
+given_is_answered allowed (start.Loop desc) own seat reply given roomless free = free_start_answered allowed own (calls.LoopStart desc) (start.Loop desc) seat reply refl refl free refl given roomless
+given_is_answered allowed (start.Sections count end_kind) own seat reply given roomless free = free_start_answered allowed own (calls.SectionsStart count end_kind) (start.Sections count end_kind) seat reply refl refl free refl given roomless
+given_is_answered allowed start.Single own seat reply given roomless free = free_start_answered allowed own calls.SingleStart start.Single seat reply refl refl free refl given roomless
+given_is_answered allowed start.SingleCopy own seat reply given roomless free = absurd (cc)
 
 -- a member that started by its seat, and waits for no words there
 pub starts_alone : (construct : ShareStart) (before : SeatView) (reply : Reply) (after : SeatView) → StartsBySeat construct before reply after → awaits_payload after.seen ≡ false → MovesBy (Starts false construct) before reply after
@@ -198,17 +211,17 @@ starts_alone_as repeated asked construct before reply given after made same is s
 
 -- a member that did has called
 pub called_start : {T : Type 0} (gives : T → Record → T → Type 0) (construct : ShareStart) (reply : Reply) (before between after : MemberView T)
-    → is_given reply ≡ true → is_free before.own ≡ true
+    → is_given reply ≡ true → start_room construct ≡ 0 → is_free before.own ≡ true
     → between ≡ record before { seat = between.seat }
     → StartsBySeat construct before.seat reply between.seat → awaits_payload between.seat.seen ≡ false → StaysSeat before.seat between.seat
     → after.own ≡ between.own
     → AfterEach gives between.tool (records_of (call_of construct) true reply) after.tool
     → HasSameParts between after
     → Called gives (call_of construct) reply before after
-called_start gives construct reply before between after given free is starts waits stays own told same =
+called_start gives construct reply before between after given roomless free is starts waits stays own told same =
     let of = start_moves_no_part construct reply given in
     let kept : between.own ≡ before.own = ap (λ m. m.own) is in
     let moves = subst (λ ask. MovesBy ask before.seat reply between.seat) (sym (start_asks before.icv.cancellation construct)) (starts_alone construct before.seat reply between.seat starts waits) in
-    called_from gives (call_of construct) reply before between after of is moves stays
+    called_from gives (call_of construct) reply before between after of (given_is_answered before.icv.cancellation construct before.own before.seat reply given roomless free) is moves stays
     (own ∙ kept ∙ given_starts_nothing construct reply before.own given free ∙ sym (ap (own_after reply (call_of construct)) kept))
     (rw (call_means_itself (call_of construct) between.own of.first) told) same

@@ -234,29 +234,29 @@ never_another_member_in_all gives call reply before after whole other = elim who
 -- A try that no reply is noted of yet
 
 -- it moves the parts by its reply,
-pub never_moved_events_otherwise : {T : Type 0} (repeated : Bool) (call : Call) (reply : Reply) (before after : MemberView T) → IsMoved repeated call reply before after → after.events ≢ events_part repeated call reply before.events → ⊥
-never_moved_events_otherwise repeated call reply before after moved other = other moved.events
+pub never_moved_events_otherwise : {T : Type 0} (room repeated : Bool) (call : Call) (reply : Reply) (before after : MemberView T) → IsMoved room repeated call reply before after → after.events ≢ events_part repeated call reply before.events → ⊥
+never_moved_events_otherwise room repeated call reply before after moved other = other moved.events
 
-pub never_moved_holds_otherwise : {T : Type 0} (repeated : Bool) (call : Call) (reply : Reply) (before after : MemberView T) → IsMoved repeated call reply before after → after.held ≢ holds_part repeated call reply before.held → ⊥
-never_moved_holds_otherwise repeated call reply before after moved other = other moved.held
+pub never_moved_holds_otherwise : {T : Type 0} (room repeated : Bool) (call : Call) (reply : Reply) (before after : MemberView T) → IsMoved room repeated call reply before after → after.held ≢ holds_part repeated call reply before.held → ⊥
+never_moved_holds_otherwise room repeated call reply before after moved other = other moved.held
 
-pub never_moved_releases_otherwise : {T : Type 0} (repeated : Bool) (call : Call) (reply : Reply) (before after : MemberView T) → IsMoved repeated call reply before after → after.freed ≢ releases_part repeated call reply before.freed → ⊥
-never_moved_releases_otherwise repeated call reply before after moved other = other moved.freed
+pub never_moved_releases_otherwise : {T : Type 0} (room repeated : Bool) (call : Call) (reply : Reply) (before after : MemberView T) → IsMoved room repeated call reply before after → after.freed ≢ releases_part repeated call reply before.freed → ⊥
+never_moved_releases_otherwise room repeated call reply before after moved other = other moved.freed
 
 -- and nothing that the member knows, nor its tool or its variables
-pub never_noted_before_the_end : {T : Type 0} (repeated : Bool) (call : Call) (reply : Reply) (before after : MemberView T) → IsMoved repeated call reply before after → after.own ≢ before.own → ⊥
-never_noted_before_the_end repeated call reply before after moved other = other moved.own
+pub never_noted_before_the_end : {T : Type 0} (room repeated : Bool) (call : Call) (reply : Reply) (before after : MemberView T) → IsMoved room repeated call reply before after → after.own ≢ before.own → ⊥
+never_noted_before_the_end room repeated call reply before after moved other = other moved.own
 
-pub never_told_before_the_end : {T : Type 0} (repeated : Bool) (call : Call) (reply : Reply) (before after : MemberView T) → IsMoved repeated call reply before after → after.tool ≢ before.tool → ⊥
-never_told_before_the_end repeated call reply before after moved other = other moved.tool
+pub never_told_before_the_end : {T : Type 0} (room repeated : Bool) (call : Call) (reply : Reply) (before after : MemberView T) → IsMoved room repeated call reply before after → after.tool ≢ before.tool → ⊥
+never_told_before_the_end room repeated call reply before after moved other = other moved.tool
 
-pub never_moved_to_other_variables : {T : Type 0} (repeated : Bool) (call : Call) (reply : Reply) (before after : MemberView T) → IsMoved repeated call reply before after → after.icv ≢ before.icv → ⊥
-never_moved_to_other_variables repeated call reply before after moved other = other moved.icv
+pub never_moved_to_other_variables : {T : Type 0} (room repeated : Bool) (call : Call) (reply : Reply) (before after : MemberView T) → IsMoved room repeated call reply before after → after.icv ≢ before.icv → ⊥
+never_moved_to_other_variables room repeated call reply before after moved other = other moved.icv
 
 -- by a refusal other than a mismatch it moves none
-pub never_moved_by_a_refused_try : {T : Type 0} (repeated : Bool) (call : Call) (refusal : Refusal) (before after : MemberView T) → refusal ≢ Mismatch → IsMoved repeated call (Refused refusal) before after
+pub never_moved_by_a_refused_try : {T : Type 0} (room repeated : Bool) (call : Call) (refusal : Refusal) (before after : MemberView T) → refusal ≢ Mismatch → IsMoved room repeated call (Refused refusal) before after
     → ((after.events ≡ before.events) × (after.held ≡ before.held) × (after.freed ≡ before.freed) × (after.icv ≡ before.icv) → ⊥) → ⊥
-never_moved_by_a_refused_try repeated call refusal before after differs moved other = other (
+never_moved_by_a_refused_try room repeated call refusal before after differs moved other = other (
   moved.events ∙ refusal_moves_no_events repeated call refusal before.events differs,
   moved.held ∙ refusal_moves_no_holds repeated call refusal before.held,
   moved.freed ∙ refusal_moves_no_releases repeated call refusal before.freed,

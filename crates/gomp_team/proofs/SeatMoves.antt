@@ -76,7 +76,7 @@ some_refusal : (one : Refusal) (other result : Option Refusal) → lesser (Some 
 some_refusal one other None is = absurd (some_stays one other is)
 some_refusal one other (Some refusal) is = (refusal, refl)
 
-inside_refusal_told : (call : InsideCall) (refusal : Refusal) (before : SeatView) (reply : Reply) (after : SeatView) → RefusesInsideBySeat call refusal before reply after → (least : Refusal) × (reply ≡ Refused least)
+pub inside_refusal_told : (call : InsideCall) (refusal : Refusal) (before : SeatView) (reply : Reply) (after : SeatView) → RefusesInsideBySeat call refusal before reply after → (least : Refusal) × (reply ≡ Refused least)
 inside_refusal_told call refusal before reply after refuses =
     let (least, is) = some_refusal refusal refuses.place (lesser (Some refusal) refuses.place) refl in
     (least, refuses.answer least is)
@@ -104,7 +104,7 @@ replies_inside None call cancelled before reply after refused serves = served_re
 -- Tries
 
 -- some and then some
-tries_joined : (ask : SeatAsk) (first between last : SeatView) → Tries ask first between → Tries ask between last → Tries ask first last
+pub tries_joined : (ask : SeatAsk) (first between last : SeatView) → Tries ask first between → Tries ask between last → Tries ask first last
 tries_joined ask first between last tries Untried = tries
 tries_joined ask first between last tries (Tried {between = then} more waits) = Tried (tries_joined ask first between then tries more) waits
 

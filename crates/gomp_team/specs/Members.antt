@@ -7,7 +7,7 @@ use Rattle.gomp_types.specs.declared.call.Call.TheVariants as calls
 use Rattle.gomp_types.specs.declared.limits.Limits.{Limits}
 use Rattle.gomp_types.specs.Resumes.{is_resume}
 use Rattle.gomp_types.specs.declared.refusal.Refusal.TheVariants.{Mismatch}
-use Rattle.gomp_types.specs.declared.reply.Reply.TheVariants.{Cancelling, Chunk, Executor, NoChunk, Refused, Section, Stopped, Wait}
+use Rattle.gomp_types.specs.declared.reply.Reply.TheVariants.{Cancelling, Refused, Stopped, Wait}
 use Rattle.gomp_types.specs.declared.depend.Dep.{Dep}
 use Rattle.gomp_board.specs.declared.op.Op.{Op}
 use Rattle.gomp_board.specs.declared.op.Op.TheVariants as ops
@@ -25,7 +25,7 @@ use Rattle.gomp_shares.specs.declared.admission.Construct.{Construct}
 use Rattle.gomp_seat_calls.specs.Alone.{admits_part, ends_alone, admits_by_turn, sections_alone}
 use Rattle.gomp_seat_calls.specs.Chunks.{claims_alone}
 use Rattle.gomp_seat_calls.specs.Stays.{StaysSeat}
-use Rattle.gomp_team.specs.Answers.{TeamAnswers}
+use Rattle.gomp_team.specs.Answers.{AnswersWithRoom}
 use Rattle.gomp_team.specs.Moves.{events_part, holds_part, releases_part}
 use Rattle.gomp_team.specs.Seats.{AsksSeat, seat_ask}
 
@@ -126,14 +126,6 @@ may_end_part_alone member = is_free member.own && member.seat.seen.in_part
 abbrev pub may_take_by_turn : {T : Type 0} → MemberView T → Bool
 may_take_by_turn member = is_free member.own && admits_by_turn member.seat.seen
 
--- whether the reply to a start says what the member was given: a piece, or that none is left, or whether it executes a single
-abbrev pub is_given : Reply → Bool
-is_given (Chunk first count) = true
-is_given NoChunk = true
-is_given (Section number) = true
-is_given (Executor executes) = true
-is_given reply = false
-
 -- whether a reply says that the team is broken or stopped, or that something of it is cancelled
 abbrev pub cuts : Reply → Bool
 cuts (Refused Mismatch) = true
@@ -141,14 +133,14 @@ cuts Stopped = true
 cuts (Cancelling true) = true
 cuts reply = false
 
--- a call, made or repeated, has moved the member's parts by its reply, and its seat, and nothing else of the member yet
-pub record IsMoved {T : Type 0} (repeated : Bool) (call : Call) (reply : Reply) (before after : MemberView T) : Type 0 where
+-- a call, made or repeated, has moved the member's parts by its reply, and its seat, and nothing else of the member yet; `room` says whether the member has room for one more task
+pub record IsMoved {T : Type 0} (room repeated : Bool) (call : Call) (reply : Reply) (before after : MemberView T) : Type 0 where
   pub events : after.events ≡ events_part repeated call reply before.events
   pub held : after.held ≡ holds_part repeated call reply before.held
   pub freed : after.freed ≡ releases_part repeated call reply before.freed
   pub seat : AsksSeat repeated (seat_ask before.icv.cancellation repeated call) before.seat reply after.seat
   pub stays : StaysSeat before.seat after.seat
-  pub answers : TeamAnswers before.icv.cancellation repeated before.own call before.seat reply
+  pub answers : AnswersWithRoom room before.icv.cancellation repeated before.own call before.seat reply
   pub own : after.own ≡ before.own
   pub tool : after.tool ≡ before.tool
   pub icv : after.icv ≡ before.icv
@@ -172,8 +164,8 @@ pub record Called {T : Type 0} (gives : T → Record → T → Type 0) (call : C
   -- its seat, which is the same member's, answered what the call asks of it
   pub seat : AsksSeat (is_resume call) (seat_ask before.icv.cancellation (is_resume call) (own_meant before.own call)) before.seat reply after.seat
   pub stays : StaysSeat before.seat after.seat
-  -- the part of the team that answers such a call may answer this
-  pub answers : TeamAnswers before.icv.cancellation (is_resume call) before.own (own_meant before.own call) before.seat reply
+  -- what answers such a call may answer this
+  pub answers : AnswersWithRoom before.room before.icv.cancellation (is_resume call) before.own (own_meant before.own call) before.seat reply
   pub icv : after.icv ≡ before.icv
   pub ring : after.ring ≡ before.ring
   pub tool : AfterEach gives before.tool (records_of (own_meant before.own call) (not (is_resume call)) reply) after.tool

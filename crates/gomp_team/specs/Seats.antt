@@ -9,7 +9,7 @@ use Rattle.gomp_types.specs.declared.cancel.CancelKind.TheVariants as kinds
 use Rattle.gomp_types.specs.declared.loop_desc.EndKind.TheVariants.{Wait as WithBarrier, Cancellable}
 use Rattle.gomp_types.specs.declared.refusal.Refusal.{Refusal}
 use Rattle.gomp_types.specs.declared.reply.Reply.{Reply}
-use Rattle.gomp_types.specs.declared.reply.Reply.TheVariants.{Cancelled, Copied, Finished, Refused, Wait}
+use Rattle.gomp_types.specs.declared.reply.Reply.TheVariants.{Cancelled, Chunk, Copied, Executor, Finished, NoChunk, Refused, Section, Wait}
 use Rattle.gomp_types.specs.Servers.{served_by}
 use Rattle.gomp_events.specs.declared.seen.Seen.{Seen}
 use Rattle.gomp_events.specs.Ordered.{is_ordered}
@@ -39,6 +39,14 @@ start_of (SectionsStart count end_kind) = Some (start.Sections count end_kind)
 start_of SingleStart = Some start.Single
 start_of SingleCopyStart = Some start.SingleCopy
 start_of call = None
+
+-- whether the reply to a start says what the member was given: a piece, or that none is left, or whether it executes a single
+abbrev pub is_given : Reply → Bool
+is_given (Chunk first count) = true
+is_given NoChunk = true
+is_given (Section number) = true
+is_given (Executor executes) = true
+is_given reply = false
 
 -- a construct that cancels such a share, or asks whether it is cancelled, if it names one, in a team that allows cancellation or does not
 abbrev pub cancel_of : Bool → Bool → CancelKind → Option InsideCall

@@ -14,7 +14,7 @@ ghost use Rattle.gomp_types.specs.Servers.{served_by};
 ghost use Rattle.gomp_team_board.specs.Parts.{part_after};
 ghost use Rattle.gomp_team_board.specs.Locked.{IsAnsweredUnless};
 ghost use Rattle.gomp_ring.specs.RingSeats.{IsOnRing};
-ghost use Rattle.gomp_team.specs.Answers.{TeamAnswers};
+ghost use Rattle.gomp_team.specs.Answers.{FindsItself, TeamAnswers};
 ghost use Rattle.gomp_team.specs.Moves.{events_part, holds_part, releases_part};
 ghost use Rattle.gomp_team.specs.Seats.{AsksSeat, seat_ask};
 ghost use Rattle.gomp_team.specs.Members.{AsksNoItems, BringsItems, AwaitsItems, AwaitsThese};
@@ -49,7 +49,7 @@ impl<L: Ledger, H: HoldLedger, F: Ledger> SharedTeam<L, H, F> {
         ensures answers { TeamAnswers self.now.team.icv.cancellation repeated state.now.own call.now
             parts.old.seat result }
     {
-        let found = self.own_refusal(rt, state, &mut parts.seat, call, repeated);
+        let found = self.itself_refusal(rt, state, &mut parts.seat, call, repeated);
         // The call's kind is asked again, after `served_by`: for the operation that it makes of the call's words.
         match plain_op(self.manner(state, repeated), call) {
             Some(op) => self.ask(rt, parts, &op, found),
@@ -90,6 +90,7 @@ impl<L: Ledger, H: HoldLedger, F: Ledger> SharedTeam<L, H, F> {
     ) -> (Reply, Call)
         requires items { BringsItems call }
         requires own { found ≢ Some Mismatch }
+        requires finds { FindsItself false state.now.own call parts.old.seat found }
         ensures call { result.1 ≡ call }
         ensures board { parts.new.board ≡ events_part false call result.0 parts.old.board }
         ensures held { parts.new.held ≡ parts.old.held }

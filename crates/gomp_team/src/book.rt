@@ -2,12 +2,15 @@
 //!
 //! OpenMP API 5.2, sections 15.2 and 18.9.
 
-ghost use Rattle.std.specs.Prelude.{◌≡◌, false, true};
+ghost use Rattle.std.specs.Prelude.{◌≡◌, false, true, Option, IfSome};
+ghost use Rattle.gomp_types.specs.declared.refusal.Refusal.{Refusal};
+ghost use Rattle.gomp_types.specs.Least.{lesser};
 ghost use Rattle.gomp_types.specs.declared.call.Server.TheVariants.{Book};
 ghost use Rattle.gomp_types.specs.Servers.{served_by};
 ghost use Rattle.gomp_team.specs.Members.{HoldsKey, FreesKey};
 ghost use Rattle.gomp_member.specs.Own.{own_owner};
-ghost use Rattle.gomp_team.specs.Answers.{AnswersBook, TeamAnswers};
+ghost use Rattle.gomp_team.specs.Answers.{IsNoneOrBroken, TeamAnswers, made_refusal};
+ghost use Rattle.gomp_team_book.specs.Others.{IsAnswered};
 ghost use Rattle.gomp_team.specs.Moves.{book_call, events_part, holds_part, releases_part};
 
 use crate::parts::MemberParts;
@@ -58,21 +61,24 @@ impl<L: Ledger, H: HoldLedger, F: Ledger> SharedTeam<L, H, F> {
         }
     }
 
-    /// Why neither the member's own knowledge nor the team lets it call: `BadMember`, `Ended`, `Broken`,
-    /// `Waiting` or `Leaving`.
+    /// Why neither the member's own knowledge nor the team lets it call: `Ended`, `Broken`, `Waiting` or
+    /// `Leaving`.
     fn early_refusal<R: Wait>(
         &self,
         rt: &R,
         state: &MemberState,
         call: &Call,
         repeated: bool,
-    ) -> Option<Refusal> {
+    ) -> Option<Refusal>
+        ensures early { (team : Option Refusal) × IsNoneOrBroken team ×
+            (result ≡ lesser (made_refusal repeated state.now.own call.now) team) }
+    {
         let own = if repeated {
             None
         } else {
             state.own_refusal(call, false)
         };
-        lesser(own, self.any_call_refusal(rt, state.number()))
+        lesser(own, self.any_call_refusal(rt))
     }
 
     /// One try to hold a name or a lock.
@@ -88,7 +94,8 @@ impl<L: Ledger, H: HoldLedger, F: Ledger> SharedTeam<L, H, F> {
         ensures held { parts.new.held ≡ holds_part false call.now result parts.old.held }
         ensures freed { parts.new.freed ≡ releases_part false call.now result parts.old.freed }
         ensures seat { parts.new.seat ≡ parts.old.seat }
-        ensures answer { AnswersBook (own_owner state.now.own) (book_call false call.now) result }
+        ensures answer { IfSome (book_call false call.now) (λ asked.
+            IsAnswered (own_owner state.now.own) asked result) }
     {
         let owner = state.owner();
         let held = &mut parts.held;
@@ -115,7 +122,8 @@ impl<L: Ledger, H: HoldLedger, F: Ledger> SharedTeam<L, H, F> {
         ensures held { parts.new.held ≡ holds_part true call.now result parts.old.held }
         ensures freed { parts.new.freed ≡ releases_part true call.now result parts.old.freed }
         ensures seat { parts.new.seat ≡ parts.old.seat }
-        ensures answer { AnswersBook (own_owner state.now.own) (book_call true call.now) result }
+        ensures answer { IfSome (book_call true call.now) (λ asked.
+            IsAnswered (own_owner state.now.own) asked result) }
     {
         let owner = state.owner();
         let held = &mut parts.held;
@@ -144,8 +152,8 @@ impl<L: Ledger, H: HoldLedger, F: Ledger> SharedTeam<L, H, F> {
         ensures held { parts.new.held ≡ holds_part repeated call.now result parts.old.held }
         ensures freed { parts.new.freed ≡ releases_part repeated call.now result parts.old.freed }
         ensures seat { parts.new.seat ≡ parts.old.seat }
-        ensures answer { AnswersBook (own_owner state.now.own) (book_call repeated call.now)
-            result }
+        ensures answer { IfSome (book_call repeated call.now) (λ asked.
+            IsAnswered (own_owner state.now.own) asked result) }
     {
         let owner = state.owner();
         let freed = &mut parts.freed;

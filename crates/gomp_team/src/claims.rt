@@ -11,6 +11,7 @@ ghost use Rattle.gomp_types.specs.Servers.{served_by};
 ghost use Rattle.gomp_types.specs.declared.reply.Reply.TheVariants.{Cancelled, Wait as Waits};
 ghost use Rattle.gomp_events.specs.Ordered.{is_ordered};
 ghost use Rattle.gomp_member.specs.Own.{names_share};
+ghost use Rattle.gomp_team.specs.Answers.{AnswersOwnInside, TeamAnswers};
 ghost use Rattle.gomp_member.specs.Rooms.{StartsTask};
 ghost use Rattle.gomp_team_shares.specs.declared.inside.InsideCall.{InsideCall};
 ghost use Rattle.gomp_ring.specs.RingSeats.{IsOnRing};
@@ -178,6 +179,8 @@ impl<L: Ledger, H: HoldLedger, F: Ledger> SharedTeam<L, H, F> {
         ensures answer { (inside : InsideCall) →
             inside_of self.now.team.icv.cancellation call.now ≡ Some inside →
             IsInsideReply inside false seat.old.seen result }
+        ensures answers { TeamAnswers self.now.team.icv.cancellation false state.now.own call.now
+            seat.old result }
         ensures uncut { result ≢ Cancelled }
     {
         match inside_call(call, self.icv.cancellation()) {
@@ -203,6 +206,7 @@ impl<L: Ledger, H: HoldLedger, F: Ledger> SharedTeam<L, H, F> {
         requires ring { IsOnRing self.now.ring seat.old }
         ensures seat { MovesBy (Inside inside.now) seat.old result seat.new }
         ensures answer { IsInsideReply inside.now false seat.old.seen result }
+        ensures inside { AnswersOwnInside state.now.own call.now inside.now seat.old result }
         ensures stays { StaysSeat seat.old seat.new }
     {
         let own = self.member_refusal(state, seat, call);

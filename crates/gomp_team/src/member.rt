@@ -195,7 +195,7 @@ impl<L: Ledger, H: HoldLedger, F: Ledger, T: Tool> Member<L, H, F, T> {
         requires first { is_resume call ≡ false }
         ensures call { result.1 ≡ call }
         ensures room { StartsTask result.0 → self.new.room ≡ true }
-        ensures moves { IsMoved false call result.0 self.old self.new }
+        ensures moves { IsMoved self.old.room false call result.0 self.old self.new }
     {
         if self.state.make_room().is_err() {
             return (Reply::Refused(Refusal::NoMemory), call);
@@ -216,11 +216,13 @@ impl<L: Ledger, H: HoldLedger, F: Ledger, T: Tool> Member<L, H, F, T> {
     fn ask_creation<R: Wait>(&mut self, rt: &R, desc: TaskDesc) -> (Reply, Call)
         ensures call { result.1 ≡ TaskCreate desc }
         ensures room { self.new.room ≡ self.old.room }
-        ensures moves { IsMoved false (TaskCreate desc) result.0 self.old self.new }
+        ensures moves { IsMoved true false (TaskCreate desc) result.0 self.old self.new }
     {
         let call = Call::TaskCreate(desc);
         let seat = &mut self.parts.seat;
-        let found = self.team.own_refusal(rt, &self.state, seat, &call, false);
+        let found = self
+            .team
+            .itself_refusal(rt, &self.state, seat, &call, false);
         self.team
             .ask_with_items(rt, &self.state, &mut self.parts, call, found)
     }
@@ -229,11 +231,13 @@ impl<L: Ledger, H: HoldLedger, F: Ledger, T: Tool> Member<L, H, F, T> {
     fn ask_taskwait<R: Wait>(&mut self, rt: &R, items: Deps) -> (Reply, Call)
         ensures call { result.1 ≡ Taskwait items }
         ensures room { self.new.room ≡ self.old.room }
-        ensures moves { IsMoved false (Taskwait items) result.0 self.old self.new }
+        ensures moves { IsMoved true false (Taskwait items) result.0 self.old self.new }
     {
         let call = Call::Taskwait(items);
         let seat = &mut self.parts.seat;
-        let found = self.team.own_refusal(rt, &self.state, seat, &call, false);
+        let found = self
+            .team
+            .itself_refusal(rt, &self.state, seat, &call, false);
         self.team
             .ask_with_items(rt, &self.state, &mut self.parts, call, found)
     }
@@ -241,7 +245,8 @@ impl<L: Ledger, H: HoldLedger, F: Ledger, T: Tool> Member<L, H, F, T> {
     /// Asks the call that waits once more.
     fn ask_again<R: Wait>(&mut self, rt: &R) -> Reply
         ensures room { StartsTask result → self.new.room ≡ true }
-        ensures moves { IsMoved true (own_meant self.old.own Resume) result self.old self.new }
+        ensures moves { IsMoved self.old.room true (own_meant self.old.own Resume)
+            result self.old self.new }
     {
         if self.state.make_room().is_err() {
             return Reply::Refused(Refusal::NoMemory);
@@ -253,12 +258,12 @@ impl<L: Ledger, H: HoldLedger, F: Ledger, T: Tool> Member<L, H, F, T> {
     }
 
     /// Asks the call that waits once more, which brings no items.
-    #[tactic(auto, using(crate::proofs::SeatMoves::seat_asked_nothing_again))]
+    #[tactic(auto, using(crate::proofs::SeatMoves::seat_asked_nothing_again, crate::proofs::Again::nothing_answered_again))]
     fn ask_open<R: Wait>(&mut self, rt: &R) -> Reply
         requires items { (call : Call) →
             self.old.own.waits.open_call ≡ Some call → AsksNoItems true call }
         ensures room { self.new.room ≡ self.old.room }
-        ensures moves { IsMoved true (own_meant self.old.own Resume) result self.old self.new }
+        ensures moves { IsMoved true true (own_meant self.old.own Resume) result self.old self.new }
     {
         match self.state.open_call() {
             Some(call) => self
@@ -276,7 +281,7 @@ impl<L: Ledger, H: HoldLedger, F: Ledger, T: Tool> Member<L, H, F, T> {
         requires waits { (items : List Dep) ×
             (self.old.own.waits.open_call ≡ Some (Taskwait items)) }
         ensures room { self.new.room ≡ self.old.room }
-        ensures moves { IsMoved true (own_meant self.old.own Resume) result self.old self.new }
+        ensures moves { IsMoved true true (own_meant self.old.own Resume) result self.old self.new }
     {
         let Some(call) = self.state.take_open() else {
             unreachable!()

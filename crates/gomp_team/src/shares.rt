@@ -3,7 +3,7 @@
 //!
 //! OpenMP API 5.2, chapter 11, sections 5.7.2, 10.1, 15.3 and 15.10.2.
 
-ghost use Rattle.std.specs.Prelude.{◌≡◌, ◌≢◌, ◌&&◌, true, false, [], IfSome, Some, None};
+ghost use Rattle.std.specs.Prelude.{◌≡◌, ◌≢◌, ◌&&◌, true, false, [], IfSome, IsSome, Option, Some, None};
 ghost use Rattle.gomp_types.specs.declared.call.Server.TheVariants.{Shares as OfShares, Team as Together};
 ghost use Rattle.gomp_types.specs.Servers.{served_by};
 ghost use Rattle.gomp_types.specs.declared.refusal.Refusal.TheVariants.{Mismatch};
@@ -13,14 +13,17 @@ ghost use Rattle.gomp_board.specs.declared.op.Op.TheVariants.{Put};
 ghost use Rattle.gomp_events.specs.Events.{share_number};
 ghost use Rattle.gomp_events.specs.Tags.{tag_with};
 ghost use Rattle.gomp_dispatch.specs.Serves.{arrival_op};
-ghost use Rattle.gomp_team_calls.specs.Starts.{start_part};
+ghost use Rattle.gomp_team_calls.specs.Starts.{start_part, start_room};
 ghost use Rattle.gomp_ring.specs.RingSeats.{IsOnRing};
 ghost use Rattle.gomp_seat_calls.specs.Stays.{StaysSeat};
 ghost use Rattle.gomp_seat_calls.specs.Starts.{awaits_payload};
-ghost use Rattle.gomp_team.specs.Answers.{AnswersOp, TeamAnswers};
+ghost use Rattle.gomp_team_board.specs.Locked.{IsAnsweredUnless};
+ghost use Rattle.gomp_shares.specs.Singles.{put_tests};
+ghost use Rattle.gomp_types.specs.Least.{least, lesser};
+ghost use Rattle.gomp_types.specs.declared.refusal.Refusal.{Refusal};
+ghost use Rattle.gomp_team.specs.Answers.{AnswersInside, ArrivalAnswers, EndAnswers, IsNoneOrBroken, IsRefusal, StartsOnBoard, TeamAnswers};
 ghost use Rattle.gomp_team.specs.Moves.{events_part, holds_part, releases_part};
-ghost use Rattle.gomp_team.specs.Members.{is_given};
-ghost use Rattle.gomp_team.specs.Seats.{MovesBy, IsInsideReply, seat_ask, ask_of_end};
+ghost use Rattle.gomp_team.specs.Seats.{MovesBy, IsInsideReply, is_given, seat_ask, ask_of_end};
 ghost use Rattle.gomp_team.specs.Seats.SeatAsk.{Starts, Inside, Puts};
 
 use crate::ops::{inside_call, share_end, share_start};
@@ -58,8 +61,10 @@ impl<L: Ledger, H: HoldLedger, F: Ledger> SharedTeam<L, H, F> {
         ensures seat { MovesBy (seat_ask self.now.team.icv.cancellation repeated call.now)
             parts.old.seat result parts.new.seat }
         ensures stays { StaysSeat parts.old.seat parts.new.seat }
+        ensures answers { TeamAnswers self.now.team.icv.cancellation repeated state.now.own call.now
+            parts.old.seat result }
     {
-        let own = self.own_refusal(rt, state, &mut parts.seat, call, repeated);
+        let own = self.itself_refusal(rt, state, &mut parts.seat, call, repeated);
         let found = lesser(own, state.task_refusal(call));
         match share_start(call) {
             Some(start) => {
@@ -71,7 +76,7 @@ impl<L: Ledger, H: HoldLedger, F: Ledger> SharedTeam<L, H, F> {
                 self.start(rt, parts, &start, repeated, found)
             }
             None => match inside_call(call, self.icv.cancellation()) {
-                Some(inside) => self.call_inside(rt, state, &mut parts.seat, &inside, found),
+                Some(inside) => self.call_inside(rt, &mut parts.seat, &inside, found),
                 None => unreachable!(),
             },
         }
@@ -88,22 +93,22 @@ impl<L: Ledger, H: HoldLedger, F: Ledger> SharedTeam<L, H, F> {
     ) -> Reply
         requires served { served_by call.now ≡ Together }
         requires ring { IsOnRing self.now.ring parts.old.seat }
+        ensures stays { StaysSeat parts.old.seat parts.new.seat }
         ensures board { parts.new.board ≡ events_part repeated call.now result parts.old.board }
         ensures held { parts.new.held ≡ holds_part repeated call.now result parts.old.held }
         ensures freed { parts.new.freed ≡ releases_part repeated call.now result parts.old.freed }
         ensures seat { MovesBy (seat_ask self.now.team.icv.cancellation repeated call.now)
             parts.old.seat result parts.new.seat }
-        ensures stays { StaysSeat parts.old.seat parts.new.seat }
         ensures answers { TeamAnswers self.now.team.icv.cancellation repeated state.now.own call.now
             parts.old.seat result }
     {
-        let found = self.own_refusal(rt, state, &mut parts.seat, call, repeated);
+        let found = self.itself_refusal(rt, state, &mut parts.seat, call, repeated);
         match call {
             Call::SingleCopyStart => {
                 self.start(rt, parts, &ShareStart::SingleCopy, repeated, found)
             }
             Call::SingleCopyEnd(words) => self.put(rt, parts, words, found),
-            Call::Resume => match lesser(found, self.any_call_refusal(rt, state.number())) {
+            Call::Resume => match lesser(found, self.any_call_refusal(rt)) {
                 Some(refusal) => Reply::Refused(refusal),
                 None => Reply::Refused(Refusal::NotInside),
             },
@@ -132,6 +137,9 @@ impl<L: Ledger, H: HoldLedger, F: Ledger> SharedTeam<L, H, F> {
         ensures seat { IfSome result (λ reply.
             MovesBy (Starts repeated start.now) seat.old reply seat.new) }
         ensures parts { IfSome result (λ reply. is_given reply ≡ true) }
+        ensures free { IfSome result (λ reply. refused ≡ false) }
+        ensures made { IfSome result (λ reply. repeated ≡ false) }
+        ensures room { IfSome result (λ reply. start_room start.now ≡ 0) }
         ensures none { result ≡ None → seat.new ≡ seat.old }
         ensures stays { StaysSeat seat.old seat.new }
     {
@@ -173,6 +181,8 @@ impl<L: Ledger, H: HoldLedger, F: Ledger> SharedTeam<L, H, F> {
         ensures freed { parts.new.freed ≡ parts.old.freed }
         ensures seat { MovesBy (Starts repeated start.now) parts.old.seat result parts.new.seat }
         ensures stays { StaysSeat parts.old.seat parts.new.seat }
+        ensures refuses { IsSome found → IsRefusal result }
+        ensures starts { StartsOnBoard start.now repeated found parts.old.seat result }
     {
         let mut board = self.board.lock(rt);
         let asked = self.start_or_go_on(&mut board, parts, start, repeated, found);
@@ -197,7 +207,10 @@ impl<L: Ledger, H: HoldLedger, F: Ledger> SharedTeam<L, H, F> {
         ensures seat { MovesBy (Starts repeated start.now)
             parts.old.seat result.reply parts.new.seat }
         ensures stays { StaysSeat parts.old.seat parts.new.seat }
+        ensures refuses { IsSome found → IsRefusal result.reply }
+        ensures starts { StartsOnBoard start.now repeated found parts.old.seat result.reply }
     {
+        let _ = board.history(); // the board stands for it
         let ring = &self.ring;
         let seat = &mut parts.seat;
         let part = &mut parts.board;
@@ -213,7 +226,6 @@ impl<L: Ledger, H: HoldLedger, F: Ledger> SharedTeam<L, H, F> {
     fn call_inside<R: Wait>(
         &self,
         rt: &R,
-        state: &MemberState,
         seat: &mut RingSeat,
         call: &InsideCall,
         found: Option<Refusal>,
@@ -221,8 +233,10 @@ impl<L: Ledger, H: HoldLedger, F: Ledger> SharedTeam<L, H, F> {
         requires ring { IsOnRing self.now.ring seat.old }
         ensures seat { MovesBy (Inside call.now) seat.old result seat.new }
         ensures stays { StaysSeat seat.old seat.new }
+        ensures inside { (team : Option Refusal) × IsNoneOrBroken team ×
+            AnswersInside (lesser found team) call.now seat.old result }
     {
-        let (refusal, cancelled) = self.board_says(rt, state.number());
+        let (refusal, cancelled) = self.board_says(rt);
         answer_inside(&self.ring, seat, call, cancelled, lesser(found, refusal))
     }
 
@@ -244,9 +258,8 @@ impl<L: Ledger, H: HoldLedger, F: Ledger> SharedTeam<L, H, F> {
         ensures freed { parts.new.freed ≡ parts.old.freed }
         ensures seat { MovesBy (ask_of_end repeated end) parts.old.seat result parts.new.seat }
         ensures stays { StaysSeat parts.old.seat parts.new.seat }
-        ensures answer { AnswersOp parts.old.seat.member (Some (arrival_op repeated
-            state.now.own.leaving.region
-            (tag_with AtShareEnd parts.old.seat.seen.entered))) result }
+        ensures answer { EndAnswers repeated end found state.now.own.leaving.region
+            parts.old.seat result }
     {
         if repeated {
             return self.ask(rt, parts, &Op::AwaitBarrier, found);
@@ -277,8 +290,8 @@ impl<L: Ledger, H: HoldLedger, F: Ledger> SharedTeam<L, H, F> {
         ensures held { parts.new.held ≡ parts.old.held }
         ensures freed { parts.new.freed ≡ parts.old.freed }
         ensures seat { parts.new.seat ≡ parts.old.seat }
-        ensures answer { AnswersOp parts.old.seat.member (Some (arrival_op repeated
-            state.now.own.leaving.region (tag_with kind parts.old.seat.seen.entered))) result }
+        ensures answer { ArrivalAnswers repeated kind found state.now.own.leaving.region
+            parts.old.seat result }
     {
         if repeated {
             return self.ask(rt, parts, &Op::AwaitBarrier, found);
@@ -306,8 +319,9 @@ impl<L: Ledger, H: HoldLedger, F: Ledger> SharedTeam<L, H, F> {
         ensures freed { parts.new.freed ≡ parts.old.freed }
         ensures seat { MovesBy Puts parts.old.seat result parts.new.seat }
         ensures stays { StaysSeat parts.old.seat parts.new.seat }
-        ensures answer { AnswersOp parts.old.seat.member
-            (Some (Put (share_number parts.old.seat.seen.current) words.now)) result }
+        ensures answer { IsAnsweredUnless (lesser found (least (put_tests parts.old.seat.seen)))
+            (Put (share_number parts.old.seat.seen.current) words.now)
+            parts.old.seat.member result }
     {
         let mut board = self.board.lock(rt);
         let seat = &mut parts.seat;
@@ -346,6 +360,7 @@ pub(crate) fn answer_inside(
     requires ring { IsOnRing ring.now seat.old }
     ensures seat { MovesBy (Inside call.now) seat.old result seat.new }
     ensures answer { IsInsideReply call.now cancelled seat.old.seen result }
+    ensures inside { AnswersInside found call.now seat.old result }
     ensures stays { StaysSeat seat.old seat.new }
 {
     call_inside(ring, seat, call, cancelled, found)

@@ -1,6 +1,6 @@
 //! What the members of a team share.
 
-ghost use Rattle.std.specs.Prelude.{◌≡◌, ◌≢◌, ◌↔◌, ◌⊎◌, IfOk, IfErr, Some, length, reverse};
+ghost use Rattle.std.specs.Prelude.{◌≡◌, ◌≢◌, ◌↔◌, ◌⊎◌, Bool, IfOk, IfErr, Some, None, length, reverse};
 ghost use Rattle.gomp_types.specs.Limits.{IsTeamSize, capped_limits};
 ghost use Rattle.gomp_team_board.specs.Counts.{counted_events};
 ghost use Rattle.gomp_team_board.specs.Locked.{team_size, KeptLaws};
@@ -12,9 +12,10 @@ ghost use Rattle.gomp_ring.specs.Rings.{ring_members};
 ghost use Rattle.gomp_ring.specs.RingSeats.{AreAllSeats, Gathers, IsOnRing};
 ghost use Rattle.gomp_seats.specs.NewSeats.{AreNewSeats};
 ghost use Rattle.gomp_seat_calls.specs.Stays.{StaysSeat};
-ghost use Rattle.gomp_team.specs.Answers.{TeamAnswers, made_by};
+ghost use Rattle.gomp_member.specs.Refused.{own_refusal};
+ghost use Rattle.gomp_team.specs.Answers.{FindsItself, FindsOwnOrName, IsNoneOrBroken, LetsEndBy, TeamAnswers, made_by};
 ghost use Rattle.gomp_team.specs.Moves.{events_part, holds_part, releases_part};
-ghost use Rattle.gomp_team.specs.Seats.{AsksSeat, seat_ask};
+ghost use Rattle.gomp_team.specs.Seats.{AsksSeat, end_of, seat_ask};
 ghost use Rattle.gomp_team.specs.Members.{AsksNoItems, cuts};
 
 use crate::ops::share_end;
@@ -221,7 +222,7 @@ impl<L: Ledger, H: HoldLedger, F: Ledger> SharedTeam<L, H, F> {
     /// Why the member's own knowledge, or what its task holds, refuses a call that the book does not
     /// answer: `Ended`, `Waiting`, `Leaving` or `HoldsCritical`. A call that is repeated was tested when it was
     /// made.
-    pub(crate) fn own_refusal<R: Wait>(
+    pub(crate) fn itself_refusal<R: Wait>(
         &self,
         rt: &R,
         state: &MemberState,
@@ -232,6 +233,7 @@ impl<L: Ledger, H: HoldLedger, F: Ledger> SharedTeam<L, H, F> {
         requires aside { served_by call.now ≢ Book }
         requires ring { IsOnRing self.now.ring seat.old }
         ensures own { result ≢ Some Mismatch }
+        ensures finds { FindsItself repeated state.now.own call.now seat.old result }
         ensures same { seat.new ≡ seat.old }
     {
         if repeated {
@@ -243,7 +245,7 @@ impl<L: Ledger, H: HoldLedger, F: Ledger> SharedTeam<L, H, F> {
         }
     }
 
-    /// Why the member's own knowledge refuses a call, which takes no lock: `Ended`, `Waiting` or `Leaving`.
+    /// Why the member's own knowledge refuses a call, which takes no lock: `Ended`, `Waiting`, `Leaving`, or `NotInside` of a resume.
     #[inline(always)]
     pub(crate) fn member_refusal(
         &self,
@@ -253,6 +255,9 @@ impl<L: Ledger, H: HoldLedger, F: Ledger> SharedTeam<L, H, F> {
     ) -> Option<Refusal>
         requires ring { IsOnRing self.now.ring seat.old }
         ensures own { result ≢ Some Mismatch }
+        ensures refuses { (placed : Bool) ×
+            LetsEndBy (end_of call.now) state.now.own.leaves_share seat.old placed ×
+            (result ≡ own_refusal placed state.now.own call.now) }
         ensures same { seat.new ≡ seat.old }
     {
         let placed = self.lets_end(state, seat, call);
@@ -264,6 +269,7 @@ impl<L: Ledger, H: HoldLedger, F: Ledger> SharedTeam<L, H, F> {
     fn critical_refusal<R: Wait>(&self, rt: &R, state: &MemberState, call: &Call) -> Option<Refusal>
         requires aside { served_by call.now ≢ Book }
         ensures own { result ≢ Some Mismatch }
+        ensures named { FindsOwnOrName None state.now.own call.now result }
     {
         if !state.is_in_names() || !tests_critical(call) {
             return None;
@@ -278,6 +284,7 @@ impl<L: Ledger, H: HoldLedger, F: Ledger> SharedTeam<L, H, F> {
     #[inline(always)]
     fn lets_end(&self, state: &MemberState, seat: &mut RingSeat, call: &Call) -> bool
         requires ring { IsOnRing self.now.ring seat.old }
+        ensures lets { LetsEndBy (end_of call.now) state.now.own.leaves_share seat.old result }
         ensures same { seat.new ≡ seat.old }
     {
         if !state.leaves_share() {
@@ -294,26 +301,24 @@ impl<L: Ledger, H: HoldLedger, F: Ledger> SharedTeam<L, H, F> {
         }
     }
 
-    /// Why any call of the member of this number is refused: `BadMember` if the team has none, or `Broken`.
-    pub(crate) fn any_call_refusal<R: Wait>(&self, rt: &R, member: u16) -> Option<Refusal>
-        ensures own { result ≢ Some Mismatch }
+    /// Why any call of a member is refused: `Broken`, if the team is.
+    pub(crate) fn any_call_refusal<R: Wait>(&self, rt: &R) -> Option<Refusal>
+        ensures of_team { IsNoneOrBroken result }
     {
-        let (refusal, _) = self.board_says(rt, member);
+        let (refusal, _) = self.board_says(rt);
         refusal
     }
 
     /// The same, and whether the region is cancelled. As long as no member was answered that it is, or that the team is broken or
     /// stopped, the board is not asked.
-    pub(crate) fn board_says<R: Wait>(&self, rt: &R, member: u16) -> (Option<Refusal>, bool)
+    pub(crate) fn board_says<R: Wait>(&self, rt: &R) -> (Option<Refusal>, bool)
         ensures own { result.0 ≢ Some Mismatch }
+        ensures of_team { IsNoneOrBroken result.0 }
     {
         if !self.may_be_cut() {
             return (None, false);
         }
         let board = self.board.lock(rt);
-        if member >= board.members() {
-            return (Some(Refusal::BadMember), false);
-        }
         match board.clash() {
             Some(clash) => (Some(Refusal::Broken(clash)), false),
             None => (None, board.is_cancelled()),

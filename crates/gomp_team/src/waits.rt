@@ -20,7 +20,7 @@ ghost use Rattle.gomp_team.specs.Answers.{TeamAnswers};
 ghost use Rattle.gomp_team.specs.Moves.{events_part, holds_part, releases_part};
 ghost use Rattle.gomp_team.specs.Seats.{AsksSeat, seat_ask};
 ghost use Rattle.gomp_team.specs.Members.{Called, CalledWhole, IsMoved, HasSameParts, AsksNoItems};
-ghost use Rattle.gomp_team.specs.Waits.{awaited_op, GoesOnBy};
+ghost use Rattle.gomp_team.specs.Waits.{awaited_op, GoesOnByOp};
 
 use crate::member::{Member, awaits_items};
 use crate::parts::MemberParts;
@@ -90,7 +90,8 @@ impl<L: Ledger, H: HoldLedger, F: Ledger, T: Tool> Member<L, H, F, T> {
     fn ask_whole<R: Wait>(&mut self, rt: &R) -> Reply
         ensures over { result ≢ Waits }
         ensures room { StartsTask result → self.new.room ≡ true }
-        ensures moves { IsMoved true (own_meant self.old.own Resume) result self.old self.new }
+        ensures moves { IsMoved self.old.room true (own_meant self.old.own Resume)
+            result self.old self.new }
     {
         if self.state.make_room().is_err() {
             return Reply::Refused(Refusal::NoMemory);
@@ -102,12 +103,13 @@ impl<L: Ledger, H: HoldLedger, F: Ledger, T: Tool> Member<L, H, F, T> {
     }
 
     /// Asks the call that waits until it is answered, which brings no items.
+    #[tactic(auto, using(crate::proofs::Again::nothing_answered_again))]
     fn wait_open<R: Wait>(&mut self, rt: &R) -> Reply
         requires items { (call : Call) →
             self.old.own.waits.open_call ≡ Some call → AsksNoItems true call }
         ensures over { result ≢ Waits }
         ensures room { self.new.room ≡ self.old.room }
-        ensures moves { IsMoved true (own_meant self.old.own Resume) result self.old self.new }
+        ensures moves { IsMoved true true (own_meant self.old.own Resume) result self.old self.new }
     {
         match self.state.open_call() {
             Some(call) => self
@@ -125,7 +127,7 @@ impl<L: Ledger, H: HoldLedger, F: Ledger, T: Tool> Member<L, H, F, T> {
             (self.old.own.waits.open_call ≡ Some (Taskwait items)) }
         ensures over { result ≢ Waits }
         ensures room { self.new.room ≡ self.old.room }
-        ensures moves { IsMoved true (own_meant self.old.own Resume) result self.old self.new }
+        ensures moves { IsMoved true true (own_meant self.old.own Resume) result self.old self.new }
     {
         let Some(Call::Taskwait(items)) = self.state.take_open() else {
             unreachable!()
@@ -208,7 +210,7 @@ impl<L: Ledger, H: HoldLedger, F: Ledger> SharedTeam<L, H, F> {
 fn awaited_op(call: &Call) -> Option<Op>
     requires items { AsksNoItems true call.now }
     ensures op { result ≡ awaited_op call.now }
-    ensures goes_on { IfSome result (λ op. GoesOnBy op call.now) }
+    ensures goes_on { IfSome result (λ op. GoesOnByOp op call.now) }
 {
     match call {
         Call::TaskCreate(_) => Some(Op::AwaitOwn),

@@ -7,7 +7,7 @@ use Rattle.gomp_types.specs.declared.reply.Reply.TheVariants.{Finished, Passed, 
 use Rattle.gomp_board.specs.declared.op.Op.{Op}
 use Rattle.gomp_board.specs.declared.op.Op.TheVariants.{Create, EndTask, Arrive, Put, Cancel, Break}
 
--- what is known of a board that lies under a lock, since no call changes it: how many members its team has, and its limits
+-- what is kept beside a board that goes under a lock, as it was then: how many members its team has, and its limits
 pub record SharedBoardView : Type 0 where
   pub members : ℕ
   pub limits : Limits

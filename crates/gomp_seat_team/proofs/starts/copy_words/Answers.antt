@@ -14,3 +14,14 @@ returns-in-Copied-clause-takes g c = λ accepted.
       is_cancelled = λ k stk. sym (c.is_cancelled-cancelled.ensures.value k stk);
       gives = (sym c.in-Copied.is ∙ given.0, rw (c.share_of-share.ensures, c.member.ensures) at given.1, c.leave_waiting.ensures.leaves);
     }
+
+pub returns-in-Refused-clause-cause : goal.returns-in-Refused-clause-cause
+returns-in-Refused-clause-cause g c = λ refusal is. record {
+  waits = c.requires.waits;
+  words = c.in-Some.words;
+  board = c.args.board.now;
+  left = c.note_words.new.board;
+  known = rw c.history.ensures.value at c.history.ensures.known;
+  has_words = rw (c.share_of-share.ensures, c.in-Some.is) at c.words_of.ensures;
+  answer = rw (c.share_of-share.ensures, c.member.ensures) at (c.note_words.ensures.refused c.in-Refused.refusal c.in-Refused.is);
+}

@@ -18,7 +18,7 @@ refuse_start-requires-in-Some-lesser g c = let (more, is) = reserves_some c.args
 pub returns-in-None-clause-starts : goal.returns-in-None-clause-starts
 returns-in-None-clause-starts g c =
     starts_by_entering (seat_start c.args.start.now c.args.repeated c.args.limits.now c.args.found) c.reserve_op-op.result c.args.seat.now c.compared_shape.new.seat c.enter.new.seat c.args.board.now c.enter.new.board c.enter.result.reply c.reserve_op-op.ensures.value
-    c.in-None.is c.in-Ok.ensures.finds c.enter.ensures.refused c.enter.ensures.enters
+    c.in-None.is c.in-Ok.ensures.finds c.enter.ensures.refused c.enter.ensures.enters c.enter.ensures.cause
 
 pub returns-in-Some-clause-starts : goal.returns-in-Some-clause-starts
 returns-in-Some-clause-starts g c =

@@ -1,10 +1,13 @@
-use Rattle.std.proofs.Common.{true}
-use Rattle.gomp_types.specs.declared.refusal.Refusal.TheVariants.{NoMemory}
-use Rattle.gomp_team.proofs.RoomMade.{moved_with_room, refused_for_room, with_room_is}
+use Rattle.std.proofs.Common.{◌∙◌, true, ap, sym}
+use Rattle.gomp_team.specs.Members.{MemberView}
+use Rattle.gomp_team.proofs.RoomMade.{moved_with_room, no_room_there, refused_for_room, with_room_is}
 use Rattle.gomp_team.proofs.member.Member.ask_again.Goals as goal
 
 pub returns-then-is_err-clause-moves : goal.returns-then-is_err-clause-moves
-returns-then-is_err-clause-moves g c = refused_for_room true _ NoMemory c.args.self.now _ (λ is. cc) (with_room_is c.args.self.now _ c.make_room.new.self.own c.make_room.ensures.own c.self.view_is)
+returns-then-is_err-clause-moves g c =
+    refused_for_room true _ c.args.self.now _
+    (no_room_there c.args.self.now.room c.make_room.result (λ room. c.make_room.ensures.there (ap (λ (m : MemberView g.row.T.Denot). m.room) c.self.view_is ∙ room)) (sym c.is_err.ensures.value ∙ c.if-is_err.true))
+    (with_room_is c.args.self.now _ c.make_room.new.self.own c.make_room.ensures.own c.self.view_is)
 
 pub returns-then-awaits_items-clause-moves : goal.returns-then-awaits_items-clause-moves
 returns-then-awaits_items-clause-moves g c =

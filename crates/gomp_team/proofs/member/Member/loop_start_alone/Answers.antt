@@ -1,4 +1,4 @@
-use Rattle.std.proofs.Common.{◌≡◌, true, ap, subst}
+use Rattle.std.proofs.Common.{◌≡◌, true, ap, rules, subst}
 use Rattle.gomp_types.specs.declared.call.Call.TheVariants.{LoopStart}
 use Rattle.gomp_types.specs.declared.loop_desc.LoopDesc.{LoopDesc}
 use Rattle.gomp_types.specs.declared.reply.Reply.{Reply}
@@ -11,7 +11,7 @@ use Rattle.gomp_seat_calls.specs.Starts.{StartsBySeat}
 use Rattle.gomp_seat_calls.specs.Stays.{StaysSeat}
 use Rattle.gomp_team.specs.Members.{Called, MemberView}
 use Rattle.gomp_team.proofs.ItsShare.{called_start}
-use Rattle.gomp_team.proofs.LoopStarts.{chunk_is_given, loop_awaits_no_words}
+use Rattle.gomp_team.proofs.LoopStarts.{chunk_is_given, loop_awaits_no_words, loop_has_no_room}
 use Rattle.gomp_team.proofs.member.Member.loop_start_alone.Goals as goal
 
 pub returns-in-Some-clause-called : goal.returns-in-Some-clause-called
@@ -23,6 +23,7 @@ returns-in-Some-clause-called g c =
     let called : Called g.T.Tool.on_gives (LoopStart desc) reply c.args.self.now c.tell_records.new.self =
     called_start g.T.Tool.on_gives (Loop desc) reply c.args.self.now _ c.tell_records.new.self
     (chunk_is_given c.in-Some.chunk.first c.in-Some.chunk.count)
+    (loop_has_no_room c.args.self.now.icv.sched c.args.self.now.icv.chunk c.args.desc desc c.scheduled-desc.ensures (search rules))
     (c.may_start_alone.ensures.free c.if-not-may_start_alone.false)
     (ap (λ (m : MemberView g.row.T.Denot). record m { seat = now }) c.self.view_is)
     (subst (λ (before : SeatView). StartsBySeat (Loop desc) before reply now) seat c.in-Some.ensures.starts)

@@ -28,7 +28,7 @@ returns-in_default g c =
       seat = answered_then ask c.args.parts.now.seat c.loop.parts.seat reply c.answer.new.parts.seat inv.5
           (asks_again c.args.self.now.team.icv.cancellation repeated call c.loop.parts.seat reply c.answer.new.parts.seat c.requires.again c.answer.ensures.seat);
       stays = stays_longer c.args.parts.now.seat c.loop.parts.seat c.answer.new.parts.seat inv.6 c.answer.ensures.stays;
-      answers = answered_at_last c.args.self.now.team.icv.cancellation repeated c.args.state.now.own call c.args.parts.now.seat c.loop.parts.seat reply c.requires.again inv.6.member c.answer.ensures.answers;
+      answers = answered_at_last c.args.self.now.team.icv.cancellation repeated c.args.state.now.own call c.args.parts.now.seat c.loop.parts.seat reply c.requires.again inv.5 inv.6 c.answer.ensures.answers;
     }
 
 pub loop-preserved : goal.loop-preserved
