@@ -1,8 +1,9 @@
 -- Members that have run their programs, as lists.
 use Rattle.std.proofs.Common.{ℕ, ◌≡◌, ◌≤◌, ◌+◌, ◌++◌, List, [], ◌∷◌, Result, Ok, Err, IfOk, IfErr, inl, inr, refl, sym, subst, ap, suc, ◌∙◌, map, length, take, drop, arith, length-append, length-drop}
-use Rattle.std.specs.Prelude.{IsErr}
+use Rattle.std.specs.Prelude.{IsErr, IsSome, Option}
 use Rattle.std.proofs.lemmas.List.{append-nil, drop_all, length-map, length-take, length-take-le, take-append-drop, take_all}
 use Rattle.gomp_ompt.specs.declared.tool.Tool.{Ghosts as ToolGhosts}
+use Rattle.gomp_types.specs.declared.refusal.Refusal.TheVariants.{NoMemory}
 use Rattle.gomp_crew.specs.Outcomes.{EachKept}
 use Rattle.gomp_team.specs.Members.{MemberView, TeamView}
 use Rattle.gomp_team_board.specs.Parts.{PartView}
@@ -14,7 +15,9 @@ use Rattle.gomp_fork.specs.declared.report.RegionFault.{RegionFault}
 use Rattle.gomp_team_book.specs.Parts.{BookPartView}
 use Rattle.gomp_fork.specs.Counts.{HaveCountedNothing, HoldCounts, both_counted, counted_by, counted_on, nothing_counted}
 use Rattle.gomp_fork.specs.Lists.{ReturnedView}
-use Rattle.gomp_fork.specs.Reports.{AreBack, FirstRan, HasOthers, HasSettled, HaveTaken, IsOpened, IsReport, LeavesAll, LeavesRegion}
+use Rattle.gomp_fork.specs.declared.report.RegionRefusal.TheVariants.{Refused}
+use Rattle.gomp_ring.specs.declared.ring.Ring.{Ring}
+use Rattle.gomp_fork.specs.Reports.{AreBack, FaultHasCause, FirstRan, HasBlamed, HasOthers, HasSettled, HaveTaken, IsOpened, IsReport, LeavesAll, LeavesRegion, IsRefusedUnbegun}
 use Rattle.gomp_fork.proofs.Begins.{still_new}
 use Rattle.gomp_fork.proofs.Histories.{history_of}
 use Rattle.gomp_fork.specs.Teams.{EachHasBegun, EachHasRun, EndView, ForksRelation, members_of, progs_of}
@@ -175,22 +178,22 @@ module _ {P T : Type 0} (program : ProgramGhosts P) (tool : ToolGhosts T) (forks
       record { left = region_left (length progs) team progs tools ends taken rest returned (Err fault) ran refl as_many members_are progs_are none settled back; counts_are = counts }
 
   pub refused_leaves_all : (n : ℕ) (team : TeamView) (progs : List P) (tools : List T) (fault : RegionFault P T)
-      → fault.progs.items ≡ progs → fault.tools.items ≡ tools → LeavesRegion program tool forks n team progs tools (Err fault)
-  refused_leaves_all n team progs tools fault same same_tools = record { counted = nothing_counted; report = tt; size = tt; back = inl (same, same_tools, refl) }
+      → fault.progs.items ≡ progs → fault.tools.items ≡ tools → IsRefusedUnbegun fault.refusal → LeavesRegion program tool forks n team progs tools (Err fault)
+  refused_leaves_all n team progs tools fault same same_tools cause = record { counted = nothing_counted; report = tt; size = tt; back = inl (same, same_tools, refl, cause) }
 
   -- and nothing is counted in it
   pub refused_leaves_none : (team : TeamView) (progs : List P) (tools : List T) (held freed held_after freed_after : BookPartView) (fault : RegionFault P T)
-      → fault.progs.items ≡ progs → fault.tools.items ≡ tools → held_after ≡ held → freed_after ≡ freed
+      → fault.progs.items ≡ progs → fault.tools.items ≡ tools → IsRefusedUnbegun fault.refusal → held_after ≡ held → freed_after ≡ freed
       → LeavesAll program tool forks (team, progs, tools) (counted_on held freed, counted_on held_after freed_after) (Err fault)
   unfolding refused_leaves_all
-  refused_leaves_none team progs tools held freed held_after freed_after fault same same_tools held_is freed_is =
-      record { left = refused_leaves_all (length progs) team progs tools fault same same_tools; counts_are = rw (held_is, freed_is) (nothing_counted_more (counted_on held freed)) }
+  refused_leaves_none team progs tools held freed held_after freed_after fault same same_tools cause held_is freed_is =
+      record { left = refused_leaves_all (length progs) team progs tools fault same same_tools cause; counts_are = rw (held_is, freed_is) (nothing_counted_more (counted_on held freed)) }
 
   pub unbegun_leaves_none : (team : TeamView) (progs : List P) (tools : List T) (held freed : BookPartView) (result : Result (Report P T) (RegionFault P T))
-      → IsErr result → IfErr result (λ fault. fault.progs.items ≡ progs) → IfErr result (λ fault. fault.tools.items ≡ tools)
+      → IsErr result → IfErr result (λ fault. fault.progs.items ≡ progs) → IfErr result (λ fault. fault.tools.items ≡ tools) → IfErr result (λ fault. fault.refusal ≡ Refused NoMemory)
       → LeavesAll program tool forks (team, progs, tools) (counted_on held freed, counted_on held freed) result
-  unbegun_leaves_none team progs tools held freed (Ok report) fails same same_tools = absurd (cc fails)
-  unbegun_leaves_none team progs tools held freed (Err fault) fails same same_tools = refused_leaves_none team progs tools held freed held freed fault same same_tools refl refl
+  unbegun_leaves_none team progs tools held freed (Ok report) fails same same_tools lacks = absurd (cc fails)
+  unbegun_leaves_none team progs tools held freed (Err fault) fails same same_tools lacks = refused_leaves_none team progs tools held freed held freed fault same same_tools (inl lacks) refl refl
 
   -- The result of the first n of all, with the others behind them
 
@@ -212,13 +215,14 @@ module _ {P T : Type 0} (program : ProgramGhosts P) (tool : ToolGhosts T) (forks
 
   all_back : (n : ℕ) (team : TeamView) (progs : List P) (tools : List T) (counted : HoldCounts) (fault all : RegionFault P T)
       → AreBack program tool forks n team (take n progs) (take n tools) counted fault
-      → all.progs.items ≡ fault.progs.items ++ drop n progs → all.tools.items ≡ fault.tools.items ++ drop n tools → AreBack program tool forks n team progs tools counted all
-  all_back n team progs tools counted fault all (inl (same, same_tools, none)) progs_are tools_are = inl (
+      → all.progs.items ≡ fault.progs.items ++ drop n progs → all.tools.items ≡ fault.tools.items ++ drop n tools → all.refusal ≡ fault.refusal → AreBack program tool forks n team progs tools counted all
+  all_back n team progs tools counted fault all (inl (same, same_tools, none, cause)) progs_are tools_are refused = inl (
     progs_are ∙ ap (λ ps. ps ++ drop n progs) same ∙ take-append-drop n progs,
     tools_are ∙ ap (λ ts. ts ++ drop n tools) same_tools ∙ take-append-drop n tools,
     none,
+    subst IsRefusedUnbegun (sym refused) cause,
   )
-  all_back n team progs tools counted fault all (inr (ends, taken, first, counts)) progs_are tools_are =
+  all_back n team progs tools counted fault all (inr (ends, taken, first, counts)) progs_are tools_are refused =
       inr (ends, taken, rw (progs_are, tools_are) (others_behind n team progs tools fault.progs.items fault.tools.items ends taken first), counts)
 
   pub region_left_of_all : (n : ℕ) (team : TeamView) (progs : List P) (tools : List T) (region all : Result (Report P T) (RegionFault P T))
@@ -232,13 +236,13 @@ module _ {P T : Type 0} (program : ProgramGhosts P) (tool : ToolGhosts T) (forks
   }
   region_left_of_all n team progs tools (Ok report) (Err all) has left = absurd has
   region_left_of_all n team progs tools (Err fault) (Ok all) has left = absurd has
-  region_left_of_all n team progs tools (Err fault) (Err all) has left = record { counted = left.counted; report = tt; size = tt; back = all_back n team progs tools left.counted fault all left.back has.0 has.1 }
+  region_left_of_all n team progs tools (Err fault) (Err all) has left = record { counted = left.counted; report = tt; size = tt; back = all_back n team progs tools left.counted fault all left.back has.0 has.1 has.3 }
 
   -- as many come back of a report or a fault as there were
 
   many_of_a_fault : (n : ℕ) (team : TeamView) (progs : List P) (tools : List T) (counted : HoldCounts) (fault : RegionFault P T) → AreBack program tool forks n team progs tools counted fault
       → n ≤ length progs → n ≤ length tools → (length fault.progs.items ≡ length progs) × (length fault.tools.items ≡ length tools)
-  many_of_a_fault n team progs tools counted fault (inl (same, same_tools, none)) enough tools_enough = (ap length same, ap length same_tools)
+  many_of_a_fault n team progs tools counted fault (inl (same, same_tools, none, cause)) enough tools_enough = (ap length same, ap length same_tools)
   many_of_a_fault n team progs tools counted fault (inr (ends, taken, first, counts)) enough tools_enough =
       as_many_back n team progs tools fault.progs.items fault.tools.items ends taken first enough tools_enough
 
@@ -263,6 +267,18 @@ module _ {P T : Type 0} (program : ProgramGhosts P) (tool : ToolGhosts T) (forks
 pub if_err_weaker : {A E : Type 0} (result : Result A E) (strong weak : E → Type 0) → ((error : E) → strong error → weak error) → IfErr result strong → IfErr result weak
 if_err_weaker (Ok value) strong weak step holds = tt
 if_err_weaker (Err error) strong weak step holds = step error holds
+
+-- why a region left no report
+
+pub blamed_for_a_cause : {P T A : Type 0} (result : Result (Report P T) (RegionFault P T)) (ledger : Option A) (ring : Ring) (rest : PartView) (returned : ReturnedView P T)
+    → IfErr result (λ fault. (fault.progs.items ≡ returned.progs) × (fault.tools.items ≡ tools_of returned.members)) → IfErr result (λ fault. IsSome ledger → HasBlamed ring rest returned.members fault.member fault.refusal)
+    → IfErr result (λ fault. IsSome ledger → FaultHasCause fault)
+blamed_for_a_cause (Ok report) ledger ring rest returned back blamed = tt
+blamed_for_a_cause (Err fault) ledger ring rest returned back blamed = λ some. inr (ring, rest, returned.members, back.1, blamed some)
+
+pub unbegun_for_a_cause : {P T A : Type 0} (result : Result (Report P T) (RegionFault P T)) (ledger : Option A) → IfErr result (λ fault. fault.refusal ≡ Refused NoMemory) → IfErr result (λ fault. IsSome ledger → FaultHasCause fault)
+unbegun_for_a_cause (Ok report) ledger lacks = tt
+unbegun_for_a_cause (Err fault) ledger lacks = λ some. inl lacks
 
 -- teams of one number and of the same variables
 pub same_team : (one other : TeamView) → one.number ≡ other.number → one.icv ≡ other.icv → one ≡ other

@@ -1,6 +1,7 @@
 -- What a report never is, of any programs, tools and histories.
-use Rattle.std.proofs.Common.{ℕ, ◌≡◌, ◌≢◌, ◌+◌, ◌<◌, List, [], ◌∷◌, Ok, Err, inl, inr, ap, ◌∙◌, subst, sum_by, arith, length}
+use Rattle.std.proofs.Common.{ℕ, ◌≡◌, ◌≢◌, ◌+◌, ◌<◌, ◌⊎◌, List, [], ◌∷◌, Ok, Err, inl, inr, ap, ◌∙◌, subst, sum_by, arith, length}
 use Rattle.gomp_events.specs.declared.event.Event.{Event}
+use Rattle.gomp_types.specs.declared.refusal.Refusal.TheVariants.{BadTeam, CountTooLarge}
 use Rattle.gomp_ompt.specs.Records.{begin_record}
 use Rattle.gomp_ompt.specs.declared.record.Point.TheVariants.{ImplicitTask}
 use Rattle.gomp_ompt.specs.declared.tool.Tool.{Ghosts as ToolGhosts}
@@ -14,7 +15,18 @@ use Rattle.gomp_fork.specs.Counts.{HoldCounts, nothing_counted}
 use Rattle.gomp_fork.specs.Teams.{EachHasRun, EndView, ForksRelation, MemberHasRun, members_of}
 use Rattle.gomp_fork.specs.declared.report.Report.{Report}
 use Rattle.gomp_fork.specs.declared.report.RegionFault.{RegionFault}
-use Rattle.gomp_fork.specs.Reports.{AreBack, FirstRan, IsReport, LeavesAll}
+use Rattle.gomp_fork.specs.declared.report.RegionRefusal.{RegionRefusal}
+use Rattle.gomp_fork.specs.declared.report.RegionRefusal.TheVariants.{Refused}
+use Rattle.gomp_fork.specs.Reports.{AreBack, FirstRan, IsReport, LeavesAll, LeavesRegion, IsRefusedUnbegun}
+
+-- Neither a count nor a size keeps a region from beginning: these are refused before
+never_for_a_count : (refusal : RegionRefusal) → refusal ≡ Refused CountTooLarge → IsRefusedUnbegun refusal → ⊥
+never_for_a_count refusal large (inl lacks) = absurd (cc)
+never_for_a_count refusal large (inr unsettled) = absurd (cc)
+
+never_for_a_size : (refusal : RegionRefusal) → refusal ≡ Refused BadTeam → IsRefusedUnbegun refusal → ⊥
+never_for_a_size refusal bad (inl lacks) = absurd (cc)
+never_for_a_size refusal bad (inr unsettled) = absurd (cc)
 
 module _ {P T : Type 0} (program : ProgramGhosts P) (tool : ToolGhosts T) (forks : ForksRelation P T) where
   -- A report has a history: that of its members, of which each has passed the region's end
@@ -76,8 +88,20 @@ module _ {P T : Type 0} (program : ProgramGhosts P) (tool : ToolGhosts T) (forks
   -- and of a region without a report nothing, unless its programs ran
   back_as_they_were_or_ran : (n : ℕ) (team : TeamView) (progs : List P) (tools : List T) (counted : HoldCounts) (fault : RegionFault P T) → AreBack program tool forks n team progs tools counted fault
       → counted ≢ nothing_counted → ((ends : List (EndView P T)) (taken : List ℕ) → FirstRan program tool forks n team progs tools fault.progs.items fault.tools.items ends taken → ⊥) → ⊥
-  back_as_they_were_or_ran n team progs tools counted fault (inl (same, same_tools, none)) some never = some none
+  back_as_they_were_or_ran n team progs tools counted fault (inl (same, same_tools, none, cause)) some never = some none
   back_as_they_were_or_ran n team progs tools counted fault (inr (ends, taken, first, counts)) some never = never ends taken first
+
+  -- it is refused for want of memory, or since its ledger was not there, unless its programs ran
+  may_not_begin_or_ran : (n : ℕ) (team : TeamView) (progs : List P) (tools : List T) (counted : HoldCounts) (fault : RegionFault P T) → AreBack program tool forks n team progs tools counted fault
+      → (IsRefusedUnbegun fault.refusal → ⊥) → ((ends : List (EndView P T)) (taken : List ℕ) → FirstRan program tool forks n team progs tools fault.progs.items fault.tools.items ends taken → ⊥) → ⊥
+  may_not_begin_or_ran n team progs tools counted fault (inl (same, same_tools, none, cause)) other never = other cause
+  may_not_begin_or_ran n team progs tools counted fault (inr (ends, taken, first, counts)) other never = never ends taken first
+
+  pub no_other_cause_before_it_begins : (n : ℕ) (team : TeamView) (progs : List P) (tools : List T) (fault : RegionFault P T) (left : LeavesRegion program tool forks n team progs tools (Err fault))
+      → (fault.refusal ≡ Refused CountTooLarge) ⊎ (fault.refusal ≡ Refused BadTeam)
+      → ((ends : List (EndView P T)) (taken : List ℕ) → FirstRan program tool forks n team progs tools fault.progs.items fault.tools.items ends taken → ⊥) → ⊥
+  no_other_cause_before_it_begins n team progs tools fault left (inl large) never = may_not_begin_or_ran n team progs tools left.counted fault left.back (λ may. never_for_a_count fault.refusal large may) never
+  no_other_cause_before_it_begins n team progs tools fault left (inr bad) never = may_not_begin_or_ran n team progs tools left.counted fault left.back (λ may. never_for_a_size fault.refusal bad may) never
 
   pub nothing_is_counted_of_none : (forked : TeamView × List P × List T) (before after : HoldCounts) (fault : RegionFault P T) (all : LeavesAll program tool forks forked (before, after) (Err fault))
       → all.left.counted ≢ nothing_counted

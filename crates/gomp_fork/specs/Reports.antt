@@ -1,13 +1,19 @@
 -- What a region leaves. (own; OpenMP API 5.2, section 10.1)
 use Rattle.std.specs.Prelude.{ℕ, ◌≡◌, ◌++◌, ◌⊎◌, List, Result, Ok, Err, IfOk, IfErr, codes, length, take, drop}
 use Rattle.gomp_types.specs.RefusalTexts.{text_of}
+use Rattle.gomp_types.specs.declared.refusal.Refusal.{Refusal}
+use Rattle.gomp_types.specs.declared.refusal.Refusal.TheVariants.{NoMemory}
 use Rattle.gomp_ompt.specs.declared.tool.Tool.{Ghosts as ToolGhosts}
 use Rattle.gomp_team.specs.Members.{MemberView, TeamView}
 use Rattle.gomp_team_board.specs.Parts.{PartView}
 use Rattle.gomp_events.specs.declared.event.Event.{Event}
+use Rattle.gomp_ring.specs.declared.ring.Ring.{Ring}
 use Rattle.gomp_ring.specs.RingSeats.{AreAllSeats, Gathers}
 use Rattle.gomp_team_region.specs.Regions.{AreNewMembers, RegionView, tools_of, seats_of, events_parts, counts_on, with_parts}
-use Rattle.gomp_team_region.specs.Settled.{IsCounted, IsHistory, LeftShares}
+use Rattle.gomp_team_region.specs.declared.settle.SettleError.{SettleError}
+use Rattle.gomp_team_region.specs.declared.settle.SettleError.TheVariants.{Broken}
+use Rattle.gomp_team_region.specs.declared.settle.SettleError.TheVariants as errors
+use Rattle.gomp_team_region.specs.Settled.{IsCounted, IsHistory, LeftShares, MembersNotSettled}
 use Rattle.gomp_course.specs.declared.program.Program.{Ghosts as ProgramGhosts}
 use Rattle.gomp_fork.specs.declared.report.Report.{Report}
 use Rattle.gomp_fork.specs.declared.report.RegionFault.{RegionFault}
@@ -21,6 +27,10 @@ use Rattle.gomp_fork.specs.Teams.{EachHasBegun, EachHasRun, EndView, ForksRelati
 abbrev pub refusal_text : RegionRefusal → List ℕ
 refusal_text (Refused refusal) = text_of refusal
 refusal_text Unsettled = codes "E42 Unsettled"
+
+-- how a region is refused that did not begin: by NoMemory, for want of a thread too; or, of a runtime whose ledger another thread has, by E42
+abbrev pub IsRefusedUnbegun : RegionRefusal → Type 0
+IsRefusedUnbegun refusal = (refusal ≡ Refused NoMemory) ⊎ (refusal ≡ Unsettled)
 
 -- what these members know by their seats is what their team did with its work-shares: each took so many iterations of loops, and so many shares all have left, which, unless the region was cancelled, are all that an arrival counts
 pub record HaveTaken {T : Type 0} (members : List (MemberView T)) (taken : List ℕ) (history : List Event) : Type 0 where
@@ -46,10 +56,10 @@ module _ {P T : Type 0} (program : ProgramGhosts P) (tool : ToolGhosts T) (forks
     pub took : HaveTaken (members_of ends) report.taken.items report.history.items
     pub counted_is : counted ≡ counted_by ends
 
-  -- programs and tools come back from a region of n members without a report: as they were, when nothing was held or freed; or the first n ran, and so much they and the regions that they forked held and freed
+  -- programs and tools come back from a region of n members without a report: as they were, when it did not begin, and nothing was held or freed; or the first n ran, and so much they and the regions that they forked held and freed
   abbrev pub AreBack : ℕ → TeamView → List P → List T → HoldCounts → RegionFault P T → Type 0
   AreBack n team progs tools counted fault =
-      ((fault.progs.items ≡ progs) × (fault.tools.items ≡ tools) × (counted ≡ nothing_counted))
+      ((fault.progs.items ≡ progs) × (fault.tools.items ≡ tools) × (counted ≡ nothing_counted) × IsRefusedUnbegun fault.refusal)
       ⊎ ((ends : List (EndView P T)) × (taken : List ℕ) × FirstRan n team progs tools fault.progs.items fault.tools.items ends taken × (counted ≡ counted_by ends))
 
   -- what a region leaves whose team has n members: the report of so many, or programs and tools without one; and how much was held and freed in it
@@ -63,6 +73,21 @@ module _ {P T : Type 0} (program : ProgramGhosts P) (tool : ToolGhosts T) (forks
   pub record LeavesAll (forked : TeamView × List P × List T) (counts : HoldCounts × HoldCounts) (result : Result (Report P T) (RegionFault P T)) : Type 0 where
     pub left : LeavesRegion (length forked.1) forked.0 forked.1 forked.2 result
     pub counts_are : counts.1 ≡ both_counted counts.0 left.counted
+
+-- whom a region blames that was not settled so, and by what: the member that broke its team, by some refusal, or nobody
+abbrev pub Blames : SettleError → ℕ → RegionRefusal → Type 0
+Blames (Broken clash) member refusal = (member ≡ clash.member) × (by : Refusal) × (refusal ≡ Refused by)
+Blames errors.Unsettled member refusal = (member ≡ 0) × (refusal ≡ Unsettled)
+
+-- the fault of members that returned, in a team of this ring that had this left of its ledger: there is a cause, and it blames by that
+pub record HasBlamed {T : Type 0} (ring : Ring) (rest : PartView) (members : List (MemberView T)) (member : ℕ) (refusal : RegionRefusal) : Type 0 where
+  pub error : SettleError
+  pub cause : MembersNotSettled ring rest members error
+  pub blames : Blames error member refusal
+
+-- a region that left no report has a cause: NoMemory before it began; or its members, whose tools these are, have a cause not to be settled
+abbrev pub FaultHasCause : {P T : Type 0} → RegionFault P T → Type 0
+FaultHasCause {P} {T} fault = (fault.refusal ≡ Refused NoMemory) ⊎ ((ring : Ring) × (rest : PartView) × (members : List (MemberView T)) × (fault.tools.items ≡ tools_of members) × HasBlamed ring rest members fault.member fault.refusal)
 
 -- the report of members that returned these lists, of a team that had this left of its ledger: tools and history are theirs, and all of this was counted on their parts
 pub record HasSettled {P T : Type 0} (rest : PartView) (returned : ReturnedView P T) (report : Report P T) : Type 0 where
@@ -78,7 +103,8 @@ abbrev pub HasOthers : {P T : Type 0} → List P → List T → Result (Report P
 HasOthers progs tools (Ok report) (Ok all) =
     (all.size ≡ report.size) × (all.taken.items ≡ report.taken.items) × (all.history.items ≡ report.history.items)
     × (all.progs.items ≡ report.progs.items ++ progs) × (all.tools.items ≡ report.tools.items ++ tools)
-HasOthers progs tools (Err fault) (Err all) = (all.progs.items ≡ fault.progs.items ++ progs) × (all.tools.items ≡ fault.tools.items ++ tools)
+HasOthers progs tools (Err fault) (Err all) =
+    (all.progs.items ≡ fault.progs.items ++ progs) × (all.tools.items ≡ fault.tools.items ++ tools) × (all.member ≡ fault.member) × (all.refusal ≡ fault.refusal)
 HasOthers progs tools _ _ = ⊥
 
 -- a region that was opened for these programs and tools, of which no program has run: its members were new, each with its own program and tool, were told that they begin, and have forked no region

@@ -1,8 +1,9 @@
 //! A region: a team whose members run their programs on the threads of a crew.
 
-ghost use Rattle.std.specs.Prelude.{◌≡◌, ◌+◌, ◌-◌, ◌<◌, ◌≤◌, [], Some, IsErr, IfOk, IfErr, OnErr, OnOk, length, map, max, vec_len, vec_capacity};
+ghost use Rattle.std.specs.Prelude.{◌≡◌, ◌+◌, ◌-◌, ◌<◌, ◌≤◌, [], Some, IsErr, IsSome, IfOk, IfErr, OnErr, OnOk, length, map, max, vec_len, vec_capacity};
 ghost use Rattle.std.specs.Arc.{arc_value};
 ghost use Rattle.gomp_types.specs.Limits.{IsTeamSize};
+ghost use Rattle.gomp_types.specs.declared.refusal.Refusal.TheVariants.{NoMemory};
 ghost use Rattle.gomp_types.specs.declared.limits.TheConstants.{MAX_MEMBERS};
 ghost use Rattle.gomp_fork.specs.declared.inner.TheConstants.{REGION_PARTS};
 ghost use Rattle.gomp_ring.specs.RingSeats.{AreAllSeats};
@@ -10,8 +11,9 @@ ghost use Rattle.gomp_course.specs.Forkers.{KeepsVariables};
 ghost use Rattle.gomp_team_region.specs.Regions.{GivesParts, IsNewRegion, events_parts, freed_parts, held_parts, seats_of, tools_of, with_book_parts, with_parts};
 ghost use Rattle.gomp_team_region.specs.Settled.{ComesBack};
 ghost use Rattle.gomp_fork.specs.Counts.{counted_in};
+ghost use Rattle.gomp_fork.specs.declared.report.RegionRefusal.TheVariants.{Refused};
 ghost use Rattle.gomp_fork.specs.Lists.{nothing_returned};
-ghost use Rattle.gomp_fork.specs.Reports.{HasSettled, IsOpened, LeavesAll};
+ghost use Rattle.gomp_fork.specs.Reports.{Blames, FaultHasCause, HasBlamed, HasSettled, IsOpened, LeavesAll};
 ghost use Rattle.gomp_fork.specs.Teams.{IsWithin, team_of};
 
 use crate::fork::{Forked, Ground};
@@ -80,6 +82,7 @@ where
     ensures held { share.new.held.parts ≡ share.old.held.parts }
     ensures freed { share.new.freed.parts ≡ share.old.freed.parts }
     ensures ledger { ComesBack L.parts result.ledger }
+    ensures caused { IfErr result.result (λ fault. IsSome result.ledger → FaultHasCause fault) }
 {
     let Ground { alloc, site, terms } = ground;
     let count = forked.progs.len();
@@ -155,6 +158,8 @@ pub fn not_begun<L: Ledger, P: Drop, T: Drop>(
     ensures progs { IfErr result.result (λ fault. fault.progs.items ≡ forked.progs.items) }
     ensures tools { IfErr result.result (λ fault. fault.tools.items ≡ forked.tools.items) }
     ensures fault { IsErr result.result }
+    ensures refusal { IfErr result.result (λ fault. fault.refusal ≡ Refused NoMemory) }
+    ensures member { IfErr result.result (λ fault. fault.member ≡ member) }
     ensures ledger { result.ledger ≡ Some ledger }
 {
     EndedRegion {
@@ -207,6 +212,7 @@ fn open_region<L: Ledger, H: HoldLedger, F: Ledger, P: Program, T: Tool>(
     ensures freed_back { OnErr result (share.new.freed ≡ share.old.freed) }
     ensures progs { IfErr result (λ unopened. unopened.fault.progs.items ≡ forked.progs.items) }
     ensures tools { IfErr result (λ unopened. unopened.fault.tools.items ≡ forked.tools.items) }
+    ensures refusal { IfErr result (λ unopened. unopened.fault.refusal ≡ Refused NoMemory) }
     ensures ledger { IfErr result (λ unopened. ComesBack L.parts unopened.ledger) }
     ensures region { IfOk result (λ opened.
         IsNewRegion terms.number terms.icv (vec_len forked.progs) L.parts opened.team) }
@@ -289,6 +295,8 @@ fn report_of<L: Ledger, H: HoldLedger, F: Ledger, P: Program, T: Tool>(
     ensures ok { IfOk result.result (HasSettled team.rest returned) }
     ensures err { IfErr result.result (λ fault.
         (fault.progs.items ≡ returned.progs) × (fault.tools.items ≡ tools_of returned.members)) }
+    ensures blamed { IfErr result.result (λ fault. IsSome result.ledger →
+        HasBlamed team.ring team.rest returned.members fault.member fault.refusal) }
     ensures ledger { ComesBack L.parts result.ledger }
     ensures held { share.new.held ≡
         with_book_parts share.old.held (held_parts returned.members) }
@@ -325,7 +333,9 @@ fn report_of<L: Ledger, H: HoldLedger, F: Ledger, P: Program, T: Tool>(
 
 /// Which member a settled region blames, and by which refusal: the one that broke the team, by the one that
 /// it last got, or `Broken` if it got none; else member 0.
-fn blame(error: SettleError, mut refusals: Vec<Option<Refusal>>) -> (u16, RegionRefusal) {
+fn blame(error: SettleError, mut refusals: Vec<Option<Refusal>>) -> (u16, RegionRefusal)
+    ensures { Blames error result.0 result.1 }
+{
     let SettleError::Broken(clash) = error else {
         return (0, RegionRefusal::Unsettled);
     };

@@ -69,7 +69,7 @@ is_no_memory refusal = false
 abbrev pub fault_status : RegionRefusal → ℕ
 fault_status refusal = if is_no_memory refusal then 3 else 2
 
--- a refusal has ended the region of a script: its programs come back as such a region may leave them, and what is printed is a refusal with its status; which one it is, but for one before the region begins, no clause says
+-- a refusal has ended the region of a script: its programs come back as such a region may leave them, and what is printed is a refusal with its status; which one it is, no clause says once its programs have run
 pub record HasFaulted (icv : Variables) (script : Script) (text : List ℕ) (code : ℕ) : Type 0 where
   pub tools : List NoTool
   pub fault : RegionFault ProgramView NoTool

@@ -237,6 +237,8 @@ fn fault_of_all<P: Drop, T: Drop>(
         × (vec_len fault.tools + vec_len others.tools ≤ vec_capacity room.tools) }
     ensures progs { result.progs.items ≡ fault.progs.items ++ others.progs.items }
     ensures tools { result.tools.items ≡ fault.tools.items ++ others.tools.items }
+    ensures member { result.member ≡ fault.member }
+    ensures refusal { result.refusal ≡ fault.refusal }
 {
     let RegionFault {
         member,

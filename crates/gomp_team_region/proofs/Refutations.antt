@@ -1,5 +1,5 @@
 -- What a new team, its members and a history that is handed out never are, of any members, counts and events.
-use Rattle.std.proofs.Common.{ℕ, ◌≡◌, ◌≢◌, ◌+◌, ◌++◌, ◌<◌, true, false, List, [], ◌∷◌, Some, None, refl, ap, subst, arith, length, reverse}
+use Rattle.std.proofs.Common.{ℕ, ◌≡◌, ◌≢◌, ◌+◌, ◌++◌, ◌<◌, true, false, List, [], ◌∷◌, Some, None, refl, ap, ◌∙◌, subst, arith, length, reverse}
 use Rattle.std.proofs.lemmas.Bool.Decides.{nat_tests}
 use Rattle.std.specs.Prelude.{codes, nat_le}
 use Rattle.std.specs.Fmt.{digits}
@@ -19,9 +19,11 @@ use Rattle.gomp_team_board.specs.Counts.{counted_events}
 use Rattle.gomp_team_board.specs.Locked.{KeptLaws}
 use Rattle.gomp_team_board.specs.Parts.{PartView, part_of, no_counts, counts_in}
 use Rattle.gomp_team_book.specs.Parts.{BookPartView}
+use Rattle.gomp_ring.specs.RingSeats.{SeatView}
+use Rattle.gomp_team_region.specs.declared.settle.SettleError.{SettleError}
 use Rattle.gomp_team_region.specs.declared.settle.SettleError.TheVariants.{Broken, Unsettled}
 use Rattle.gomp_team_region.specs.Regions.{RegionView, IsNewMember, AreNewMembers, IsNewRegion, GivesParts, with_parts, with_book_parts}
-use Rattle.gomp_team_region.specs.Settled.{HasReturned, HaveReturned, IsSettled, IsHistory, IsCounted, ComesBack, LeftShares, all_arrive_within, arrives_within, settle_error, error_text}
+use Rattle.gomp_team_region.specs.Settled.{HasNotSettled, HasReturned, HaveReturned, IsSettled, IsHistory, IsCounted, ComesBack, LeftShares, all_arrive_within, arrives_within, settle_error, error_text}
 
 -- A history that is handed out
 
@@ -83,6 +85,15 @@ never_unsettled_if_broken clash is = absurd (cc is)
 
 pub never_broken_if_nobody_broke_it : (clash : Clash) → settle_error None ≡ Broken clash → ⊥
 never_broken_if_nobody_broke_it clash is = absurd (cc is)
+
+-- without a cause: nothing is handed out of a history that is broken or not settled, or of which an arrival counts a share that not all have left
+pub never_kept_back_if_settled : (members : ℕ) (seats : List SeatView) (counts : List PartCounts) (whole : PartView) (error : SettleError) (kept : HasNotSettled members seats counts whole error)
+    → IsSettled kept.size counts kept.history → LeftShares kept.shares kept.history → ⊥
+never_kept_back_if_settled members seats counts whole error kept settled left = kept.cause settled left
+
+pub never_called_broken_by_nobody : (members : ℕ) (seats : List SeatView) (counts : List PartCounts) (whole : PartView) (clash : Clash) (kept : HasNotSettled members seats counts whole (Broken clash))
+    → clash_of (reverse kept.history) ≡ None → ⊥
+never_called_broken_by_nobody members seats counts whole clash kept none = absurd (let is : Broken clash ≡ settle_error None = kept.error_is ∙ ap settle_error none in cc)
 
 unsettled_prints : error_text Unsettled ≡ codes "E42 Unsettled"
 unsettled_prints = refl

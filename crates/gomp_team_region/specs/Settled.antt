@@ -8,6 +8,11 @@ use Rattle.gomp_events.specs.declared.event.Event.{Event}
 use Rattle.gomp_events.specs.declared.event.Event.TheVariants.{Arrive, Cancel}
 use Rattle.gomp_events.specs.Cancels.{is_cancelled, same_scope}
 use Rattle.gomp_events.specs.Events.{clash_of, has_left_region, is_region_end}
+use Rattle.gomp_ring.specs.declared.ring.Ring.{Ring}
+use Rattle.gomp_ring.specs.Rings.{ring_members}
+use Rattle.gomp_ring.specs.RingSeats.{SeatView, Gathers}
+use Rattle.gomp_team.specs.Members.{MemberView}
+use Rattle.gomp_team_region.specs.Regions.{counts_on, events_parts, seats_of, with_parts}
 use Rattle.gomp_team_board.specs.declared.part.PartCounts.{PartCounts}
 use Rattle.gomp_team_board.specs.Counts.{counted_events}
 use Rattle.gomp_team_board.specs.Locked.{KeptLaws}
@@ -75,6 +80,22 @@ ComesBack parts (Some ledger) = ledger ≡ parts
 abbrev pub settle_error : Option Clash → SettleError
 settle_error (Some clash) = Broken clash
 settle_error None = Unsettled
+
+-- why the members of a team, with these seats on a ring of so many, these counts, and on their parts of the ledger what is on this one, have done nothing that is handed out: some history of a team, which keeps its laws, and has as many events as there, discards aside, is not settled with these counts, or an arrival in it counts a share that not all have left; and the error is told by it
+pub record HasNotSettled (members : ℕ) (seats : List SeatView) (counts : List PartCounts) (whole : PartView) (error : SettleError) : Type 0 where
+  pub size : ℕ
+  pub history : List Event
+  pub laws : KeptLaws size (reverse history)
+  pub counted : IsCounted whole history
+  pub shares : ℕ
+  pub taken : List ℕ
+  pub gathered : Gathers members seats shares taken
+  pub cause : IsSettled size counts history → LeftShares shares history → ⊥
+  pub error_is : error ≡ settle_error (clash_of (reverse history))
+
+-- so these members, in a team of this ring that had this left of its ledger
+abbrev pub MembersNotSettled : {T : Type 0} → Ring → PartView → List (MemberView T) → SettleError → Type 0
+MembersNotSettled ring rest members error = HasNotSettled (ring_members ring) (seats_of members) (counts_on (events_parts members)) (with_parts rest (events_parts members)) error
 
 -- how it prints: as the refusal of a broken team, or by its own number and name
 abbrev pub error_text : SettleError → List ℕ

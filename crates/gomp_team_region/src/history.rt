@@ -6,6 +6,7 @@ ghost use Rattle.gomp_events.specs.Cancels.{is_cancelled};
 ghost use Rattle.gomp_events.specs.Events.{clash_of, has_left_region};
 ghost use Rattle.gomp_team_board.specs.Locked.{team_size};
 ghost use Rattle.gomp_team_board.specs.Parts.{is_pass};
+ghost use Rattle.gomp_team_region.specs.declared.settle.SettleError.TheVariants.{Unsettled};
 ghost use Rattle.gomp_team_region.specs.Settled.{all_arrive_within, arrives_within, cancels_region, comes_to_end, HasReturned, HaveReturned, IsSettled, LeftShares, settle_error};
 
 use crate::outcome::RegionWork;
@@ -54,6 +55,9 @@ pub(crate) fn region_work(
     ensures shares { IfOk result (λ work. work.shares ≡ gathered.shares) }
     ensures taken { IfOk result (λ work. work.taken.items ≡ gathered.taken.items) }
     ensures left { IfOk result (λ work. LeftShares work.shares work.history.items) }
+    ensures refused { IfErr result (λ error. IfErr history (λ first. error ≡ first)) }
+    ensures stayed { IfErr result (λ error. IfOk history (λ events.
+        (error ≡ Unsettled) × (LeftShares gathered.shares events.items → ⊥))) }
 {
     let Gathered { shares, taken } = gathered;
     let history = history?;

@@ -9,7 +9,7 @@ ghost use Rattle.gomp_ring.specs.Rings.{ring_members};
 ghost use Rattle.gomp_seats.specs.NewSeats.{AreNewSeats};
 ghost use Rattle.gomp_team_region.specs.Regions.{AreNewMembers, IsNewRegion, GivesParts, tools_of, seats_of, events_parts, held_parts, freed_parts, counts_on, with_parts, with_book_parts};
 ghost use Rattle.gomp_team_region.specs.declared.settle.SettleError.TheVariants.{Unsettled};
-ghost use Rattle.gomp_team_region.specs.Settled.{IsHistory, IsCounted, LeftShares, ComesBack};
+ghost use Rattle.gomp_team_region.specs.Settled.{IsHistory, IsCounted, MembersNotSettled, LeftShares, ComesBack};
 
 use crate::book_share::BookShare;
 use crate::history::{region_history, region_work};
@@ -247,6 +247,8 @@ impl<L: Ledger, H: HoldLedger, F: Ledger, T: Tool> RegionTeam<L, H, F, T> {
         ensures left { IfOk result.work (λ work. LeftShares work.shares work.history.items) }
         ensures ledger { ComesBack L.parts result.ledger }
         ensures lost { IsNone result.ledger → result.work ≡ Err Unsettled }
+        ensures refused { IfErr result.work (λ error. IsSome result.ledger →
+            MembersNotSettled self.ring self.rest members.items error) }
         ensures held { share.new.held ≡ with_book_parts share.old.held (held_parts members.items) }
         ensures freed { share.new.freed ≡
             with_book_parts share.old.freed (freed_parts members.items) }

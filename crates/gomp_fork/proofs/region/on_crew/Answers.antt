@@ -1,4 +1,4 @@
-use Rattle.std.proofs.Common.{◌≡◌, ◌+◌, refl, sym, ◌∙◌, arith, map, length}
+use Rattle.std.proofs.Common.{◌≡◌, ◌+◌, inl, refl, sym, ◌∙◌, arith, map, length}
 use Rattle.std.specs.Prelude.{All, vec_len}
 use Rattle.gomp_fork.proofs.EnoughThreads.{enough_threads}
 use Rattle.std.proofs.lemmas.List.{length-map}
@@ -9,7 +9,7 @@ use Rattle.gomp_fork.proofs.PartsBack.{ends_have_one_of_each}
 use Rattle.gomp_fork.proofs.SeatsBack.{opened_seats_come_back}
 use Rattle.gomp_fork.specs.Counts.{counted_in}
 use Rattle.gomp_fork.proofs.CountsBack.{all_is_counted, half_is_back}
-use Rattle.gomp_fork.proofs.Rans.{all_left, one_for_each_program, opened_jobs_have_run, refused_leaves_none, unbegun_leaves_none}
+use Rattle.gomp_fork.proofs.Rans.{all_left, blamed_for_a_cause, one_for_each_program, opened_jobs_have_run, refused_leaves_none, unbegun_for_a_cause, unbegun_leaves_none}
 use Rattle.gomp_fork.proofs.region.on_crew.Goals as goal
 
 pub report_of-requires-clause-whole : goal.report_of-requires-clause-whole
@@ -99,14 +99,27 @@ run_by-outcomes-requires-clause-enough g c =
 pub returns-in_default-clause-region : goal.returns-in_default-clause-region
 returns-in_default-clause-region g c =
     unbegun_leaves_none g.P.Program g.T.Tool g.K.Forking.forks (team_of c.args.ground.terms) c.args.forked.progs.items c.args.forked.tools.items c.args.share.now.held c.args.share.now.freed
-    c.not_begun.result.result c.not_begun.ensures.fault c.not_begun.ensures.progs c.not_begun.ensures.tools
+    c.not_begun.result.result c.not_begun.ensures.fault c.not_begun.ensures.progs c.not_begun.ensures.tools c.not_begun.ensures.refusal
 
 pub returns-then-is_err-clause-region : goal.returns-then-is_err-clause-region
 returns-then-is_err-clause-region g c =
     unbegun_leaves_none g.P.Program g.T.Tool g.K.Forking.forks (team_of c.args.ground.terms) c.args.forked.progs.items c.args.forked.tools.items c.args.share.now.held c.args.share.now.freed
-    c.not_begun-then-is_err.result.result c.not_begun-then-is_err.ensures.fault c.not_begun-then-is_err.ensures.progs c.not_begun-then-is_err.ensures.tools
+    c.not_begun-then-is_err.result.result c.not_begun-then-is_err.ensures.fault c.not_begun-then-is_err.ensures.progs c.not_begun-then-is_err.ensures.tools c.not_begun-then-is_err.ensures.refusal
 
 pub returns-clause-region : goal.returns-clause-region
 returns-clause-region g c =
     refused_leaves_none g.P.Program g.T.Tool g.K.Forking.forks (team_of c.args.ground.terms) c.args.forked.progs.items c.args.forked.tools.items c.args.share.now.held c.args.share.now.freed
-    c.open_region.new.share.held c.open_region.new.share.freed c.in-Err.unopened.fault c.in-Err.ensures.progs c.in-Err.ensures.tools c.in-Err.ensures.held_back c.in-Err.ensures.freed_back
+    c.open_region.new.share.held c.open_region.new.share.freed c.in-Err.unopened.fault c.in-Err.ensures.progs c.in-Err.ensures.tools (inl c.in-Err.ensures.refusal) c.in-Err.ensures.held_back c.in-Err.ensures.freed_back
+
+pub returns-in-Ok-open_region-clause-caused : goal.returns-in-Ok-open_region-clause-caused
+returns-in-Ok-open_region-clause-caused g c =
+    blamed_for_a_cause c.report_of.result.result c.report_of.result.ledger c.in-Ok-open_region.opened.team.ring c.in-Ok-open_region.opened.team.rest c.take_apart-returned.result c.report_of.ensures.err c.report_of.ensures.blamed
+
+pub returns-in_default-clause-caused : goal.returns-in_default-clause-caused
+returns-in_default-clause-caused g c = unbegun_for_a_cause c.not_begun.result.result c.not_begun.result.ledger c.not_begun.ensures.refusal
+
+pub returns-then-is_err-clause-caused : goal.returns-then-is_err-clause-caused
+returns-then-is_err-clause-caused g c = unbegun_for_a_cause c.not_begun-then-is_err.result.result c.not_begun-then-is_err.result.ledger c.not_begun-then-is_err.ensures.refusal
+
+pub returns-clause-caused : goal.returns-clause-caused
+returns-clause-caused g c = λ some. inl c.in-Err.ensures.refusal

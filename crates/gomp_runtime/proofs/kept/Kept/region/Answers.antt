@@ -1,4 +1,4 @@
-use Rattle.std.proofs.Common.{refl, sym, subst, vec_len}
+use Rattle.std.proofs.Common.{inl, inr, refl, sym, subst, vec_len}
 use Rattle.gomp_fork.specs.Reports.{LeavesRegion}
 use Rattle.gomp_fork.specs.Teams.{team_of}
 use Rattle.gomp_fork.proofs.Rans.{refused_leaves_all}
@@ -13,8 +13,8 @@ returns-clause-region g c =
 pub returns-in_default-clause-region : goal.returns-in_default-clause-region
 returns-in_default-clause-region g c =
     refused_leaves_all g.P.Program g.T.Tool (Forks g.P.Program g.T.Tool) (vec_len c.args.forked.progs) (team_of c.args.terms) c.args.forked.progs.items c.args.forked.tools.items
-    c.refused.result c.refused.ensures.progs c.refused.ensures.tools
+    c.refused.result c.refused.ensures.progs c.refused.ensures.tools (inl c.refused.ensures.refusal)
 
 pub returns-in_default-take-clause-region : goal.returns-in_default-take-clause-region
 returns-in_default-take-clause-region g c =
-    refused_leaves_all g.P.Program g.T.Tool (Forks g.P.Program g.T.Tool) (vec_len c.args.forked.progs) (team_of c.args.terms) c.args.forked.progs.items c.args.forked.tools.items _ refl refl
+    refused_leaves_all g.P.Program g.T.Tool (Forks g.P.Program g.T.Tool) (vec_len c.args.forked.progs) (team_of c.args.terms) c.args.forked.progs.items c.args.forked.tools.items _ refl refl (inr refl)

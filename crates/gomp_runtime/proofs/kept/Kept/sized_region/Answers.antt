@@ -1,4 +1,4 @@
-use Rattle.std.proofs.Common.{◌≡◌, sym, subst, ◌∙◌, arith, take, drop, vec_len}
+use Rattle.std.proofs.Common.{inl, ◌≡◌, sym, subst, ◌∙◌, arith, take, drop, vec_len}
 use Rattle.std.proofs.lemmas.Result.{IfOk-weaker}
 use Rattle.gomp_fork.specs.Reports.{HasOthers, LeavesRegion}
 use Rattle.gomp_fork.specs.Teams.{team_of}
@@ -58,4 +58,4 @@ returns-then-size-len-clause-region g c =
 pub returns-in-Err-clause-region : goal.returns-in-Err-clause-region
 returns-in-Err-clause-region g c =
     refused_leaves_all g.P.Program g.T.Tool (Forks g.P.Program g.T.Tool) c.args.size (team_of c.args.terms) c.args.forked.progs.items c.args.forked.tools.items
-    c.refused.result (c.refused.ensures.progs ∙ c.in-Err.ensures.progs) (c.refused.ensures.tools ∙ c.in-Err.ensures.tools)
+    c.refused.result (c.refused.ensures.progs ∙ c.in-Err.ensures.progs) (c.refused.ensures.tools ∙ c.in-Err.ensures.tools) (inl c.refused.ensures.refusal)
