@@ -13,10 +13,7 @@ the first is left; each lock is made, set and unset. Its time should grow with t
 
 A third table has the instructions of a step, counted by callgrind, of `ompteam` (its shares on the ring) and of the plain program on the
 same texts, and the ratio: a step is the difference of two texts of which one has 10,000 steps more, so the start of the program does not
-count. The status is 1 if a ratio is above 1.05. With --ratio it makes this table alone, of the two programs that are named, if any are.
-
-The peak memory that the system tells counts the launcher's own before the program begins (about 15 MB), so it
-says something of the program only where the text is large."""
+count. The status is 1 if a ratio is above 1.05. With --ratio it makes this table alone, of the two programs that are named, if any are."""
 
 import os
 import re
@@ -103,15 +100,18 @@ HOLDS = [("names", names), ("names, nested", nested_names), ("locks", locks), ("
 
 
 def run(path):
-    """Seconds and peak memory (bytes) of one run."""
+    """Seconds and peak memory (bytes) of one run. The memory is the process's own, read when it begins to write: its answer is whole then."""
     began = time.perf_counter()
-    with open(path, "rb") as text:
-        child = subprocess.Popen([PROGRAM, "steps"], stdin=text, stdout=subprocess.DEVNULL)
-        _, status, usage = os.wait4(child.pid, 0)
+    with open(path, "rb") as text, subprocess.Popen([PROGRAM, "steps"], stdin=text, stdout=subprocess.PIPE) as child:
+        child.stdout.read(1)
+        with open(f"/proc/{child.pid}/status", encoding="ascii") as status:
+            peak = int(re.search(r"VmHWM:\s+(\d+) kB", status.read())[1]) * 1024
+        while child.stdout.read(1 << 20):
+            pass
     seconds = time.perf_counter() - began
-    if status != 0:
-        sys.exit(f"ompteam ended with {status}")
-    return seconds, usage.ru_maxrss * 1024
+    if child.returncode != 0:
+        sys.exit(f"ompteam ended with {child.returncode}")
+    return seconds, peak
 
 
 def stripped(program, folder, name):

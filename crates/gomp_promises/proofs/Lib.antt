@@ -29,6 +29,7 @@ pub mod ScriptTextReadings
 pub mod ServiceReadings
 pub mod ServingReadings
 pub mod SettingReadings
+pub mod StartReadings
 pub mod StepFaultReadings
 pub mod StepReadings
 pub mod StepTextReadings

@@ -1,13 +1,15 @@
 -- Texts, line by line.
-use Rattle.std.proofs.Common.{◌≡◌, ◌≢◌, ℕ, ◌<◌, suc, List, [], ◌∷◌, ◌++◌, Option, Some, None, Result, Ok, Err, length, Bor, refl, ap, ◌∙◌, sym, append_assoc, arith}
-use Rattle.std.specs.Prelude.{IfSome, IsSome, option_copied}
+use Rattle.std.proofs.Common.{◌≡◌, ◌≢◌, ℕ, ◌<◌, true, suc, List, [], ◌∷◌, ◌++◌, Option, Some, None, Result, Ok, Err, length, Bor, refl, ap, ◌∙◌, sym, append_assoc, arith}
+use Rattle.std.specs.Prelude.{IfSome, IsSome, codes, option_copied}
 use Rattle.gomp_types.specs.declared.call.Step.{Step}
 use Rattle.gomp_script.specs.declared.parse.BadLine.{BadLine}
 use Rattle.gomp_script.specs.declared.parse.ParseError.{ParseError}
 use Rattle.gomp_script.specs.declared.parse.ParseError.TheVariants.{Memory, Bad}
-use Rattle.gomp_text.specs.Words.{lines_of}
+use Rattle.gomp_text.specs.Words.{lines_of, same_word}
+use Rattle.gomp_text.proofs.WordLemmas.{same_means}
+use Rattle.gomp_types.specs.declared.call.Call.TheVariants.{LoopNext}
 use Rattle.gomp_script.specs.declared.parse.Why.{Why}
-use Rattle.gomp_script.specs.StepText.{LineHasItems, bad_line, fault_in, next_word, call_step, step_of, lines_left, with_front, step_line, steps_kept, with_team, Fails, HasStep, TeamHasStep, refused_by}
+use Rattle.gomp_script.specs.StepText.{IsNext, LineHasItems, bad_line, line_words, member_named, no_more_words, plain_step, fault_in, next_word, call_step, step_of, lines_left, with_front, step_line, steps_kept, with_team, Fails, HasStep, TeamHasStep, refused_by}
 
 -- how much is left
 abbrev pub left : Option (List ℕ) → ℕ
@@ -95,3 +97,10 @@ step_by_call member [] taken is = absurd (cc)
 step_by_call member (word ∷ words) taken is =
     let here : (word, words) ≡ taken = cc in
     ap (λ (parts : List ℕ × List (List ℕ)). call_step member parts.0 parts.1) here
+
+-- a line in which a member asks for its next chunk, by its words
+pub next_read : (line member call : List ℕ) (words later : List (List ℕ)) (number : ℕ) → line_words line ≡ Ok (member ∷ words) → next_word words ≡ Ok (call, later) → same_word call (codes "next") ≡ true → no_more_words later ≡ Ok tt → member_named member ≡ Ok number → IsNext number line
+unfolding plain_step
+next_read line member call words later number first taken is done named =
+    let made : step_of (member ∷ words) ≡ Ok (record { member = number; call = LoopNext }) = step_by_call member words (call, later) taken ∙ rw (same_means call (codes "next") is, named, done) refl in
+    rw (first, made) refl

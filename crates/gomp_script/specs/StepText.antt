@@ -1,5 +1,5 @@
 -- The text of steps: a line `team N`, and then a line `MEMBER CALL` for each step. (own)
-use Rattle.std.specs.Prelude.{ℕ, ℤ, ◌≡◌, ◌≢◌, ◌+◌, ◌++◌, ◌==◌, Bool, true, false, if◌then◌else◌, List, [], ◌∷◌, take, drop, is_some, Option, Some, None, option_map, Result, Ok, Err, MatchResult, codes}
+use Rattle.std.specs.Prelude.{ℕ, ℤ, ◌≡◌, ◌≢◌, ◌+◌, ◌++◌, ◌==◌, Bool, true, false, if◌then◌else◌, List, [], ◌∷◌, take, drop, is_some, Option, Some, None, option_map, Result, Ok, Err, MatchResult, codes, option_copied}
 use Rattle.std.specs.Borrow.{Bor}
 use Rattle.std.specs.Option.{option_map_or, option_or}
 use Rattle.gomp_types.specs.declared.call.Call.{Call}
@@ -26,6 +26,7 @@ use Rattle.gomp_script.specs.declared.parse.items.Item.{Item}
 use Rattle.gomp_script.specs.declared.parse.locks.LockCall.{LockCall}
 use Rattle.gomp_script.specs.declared.parse.locks.LockCall.TheVariants.{Destroys, Sets, Tests, Unsets, SetsNest, TestsNest, UnsetsNest}
 use Rattle.gomp_script.specs.declared.parse.ParseError.{ParseError}
+use Rattle.gomp_script.specs.declared.parse.TeamLine.{TeamLine}
 use Rattle.gomp_script.specs.declared.parse.ParseError.TheVariants.{Memory, Bad}
 use Rattle.gomp_text.specs.Words.{lines_of, words_of, parts_left, is_ascii, same_word}
 use Rattle.gomp_text.specs.Numbers.{unsigned, signed}
@@ -421,6 +422,10 @@ read_words reads (word ∷ words) = some_if_ok (reads (word ∷ words))
 abbrev pub read_line : {A : Type 0} → (List (List ℕ) → Result A Why) → List ℕ → Result (Option A) Why
 read_line reads line = line_words line >>= read_words reads
 
+-- a line in which this member asks for its next chunk
+abbrev pub IsNext : ℕ → List ℕ → Type 0
+IsNext member line = read_line step_of line ≡ Ok (Some (record { member = member; call = LoopNext }))
+
 -- Texts
 
 abbrev pub bad_line : {A : Type 0} → ℕ → Why → Result A BadLine
@@ -551,6 +556,10 @@ lines_left text = parts_left 10 text
 -- the steps of what is left of a text, by the number of its first line
 abbrev pub steps_left : ℕ → Option (List ℕ) → Result (List Step) BadLine
 steps_left number text = steps_from number (lines_left text)
+
+-- what a text says is the size on its team's line, and the steps of the lines behind that; or that line is bad, or wants
+abbrev pub IsTeamLine : List ℕ → Result TeamLine BadLine → Type 0
+IsTeamLine text read = MatchResult read (λ line. steps_of text ≡ with_team line.count (steps_left line.first (option_copied line.lines))) (λ bad. steps_of text ≡ Err bad)
 
 -- the steps so far, with what a line said
 abbrev pub steps_kept : List Step → Option Step → List Step

@@ -9,7 +9,9 @@ mod parse;
 mod print;
 
 pub use live::{LiveLine, parse_live_line};
-pub use parse::{BadLine, LineError, ParseError, Why, parse_steps};
+pub use parse::{BadLine, LineError, ParseError, TeamLine, Why, parse_steps};
+// The parts of a text, for who answers each line as it is read.
+pub use parse::{first_fault, next_member, parse_team, read_step};
 // The parts of a line, for crates that read lines of other texts.
 pub use parse::{
     behind_items, cancel_kind_of, count_of, critical_name_of, end_of, finish, first_word, items_of,

@@ -1,10 +1,10 @@
 //! From a text of steps to the size of the team and the steps.
 
-ghost use Rattle.std.specs.Prelude.{◌≡◌, ◌≤◌, ◌∷◌, option_copied, vec_len, vec_capacity, OnOk, OnErr, IsSome, IsErrOf};
+ghost use Rattle.std.specs.Prelude.{◌≡◌, ◌≤◌, ◌∷◌, option_copied, vec_len, vec_capacity, OnOk, OnErr, IfSome, IsSome, IsErrOf};
 ghost use Rattle.gomp_text.specs.Words.{words_of};
 ghost use Rattle.gomp_script.specs.declared.parse.LineError.TheVariants.{NoMemory};
 ghost use Rattle.gomp_script.specs.declared.parse.ParseError.TheVariants.{Memory};
-ghost use Rattle.gomp_script.specs.StepText.{IsFirstOfLine, call_step, other_step, step_of, team_of, read_line, steps_left, steps_of, steps_kept, begins_comment, fault_in, Gives, HasItems, HasStep, LineHasItems, Reads, TeamHasStep, refused_by};
+ghost use Rattle.gomp_script.specs.StepText.{IsFirstOfLine, call_step, other_step, step_of, team_of, read_line, steps_left, steps_of, steps_kept, begins_comment, fault_in, Gives, HasItems, HasStep, IsNext, IsTeamLine, LineHasItems, Reads, TeamHasStep, refused_by};
 
 mod cancel;
 mod critical;
@@ -120,6 +120,46 @@ impl<T: Drop> From<AllocFailed<T>> for ParseError {
     }
 }
 
+/// The line of a text that says how many members its team has, and what follows that line.
+#[derive(Clone, Copy)]
+pub struct TeamLine<'t> {
+    /// The number that stands there, 0 to 2^32 - 1: whether a team may have so many members is not asked here.
+    pub count: u32,
+    /// The lines behind it. None if it is the last.
+    pub lines: Option<&'t [u8]>,
+    /// The number of the first of them, from 1.
+    pub first: u64,
+}
+
+/// The line that says how many members the team of a text has, before which are only lines that say nothing. The error is the
+/// first bad line, if that line is bad or there is none.
+pub fn parse_team(text: &[u8]) -> Result<TeamLine<'_>, BadLine>
+    ensures { IsTeamLine text.now result }
+{
+    let mut rest = Some(text);
+    let mut number: u64 = 1;
+    while let Some(lines) = rest {
+        let (line, after) = cut_at(lines, b'\n');
+        let team = match read_team(line) {
+            Ok(team) => team,
+            Err(why) => return Err(BadLine { line: number, why }),
+        };
+        rest = after;
+        number = number.saturating_add(1);
+        if let Some(count) = team {
+            return Ok(TeamLine {
+                count,
+                lines: rest,
+                first: number,
+            });
+        }
+    }
+    Err(BadLine {
+        line: 1,
+        why: Why::FirstLine,
+    })
+}
+
 /// The size of the team that a text asks for, and its steps. The size is the number that stands
 /// there, 0 to 2^32 - 1: whether a team may have it is not asked here.
 ///
@@ -129,27 +169,14 @@ pub fn parse_steps(alloc: Global, text: &[u8]) -> Result<(u32, Vec<Step>), Parse
     ensures steps { Gives (λ found. (found.0, found.1.items)) result (steps_of text.now) }
     ensures memory { IsErrOf result Memory → TeamHasStep (steps_of text.now) }
 {
-    let mut rest = Some(text);
-    let mut number: u64 = 1;
-    while let Some(lines) = rest {
-        let (line, after) = cut_at(lines, b'\n');
-        let team = match read_team(line) {
-            Ok(team) => team,
-            Err(why) => return Err(ParseError::Bad(BadLine { line: number, why })),
-        };
-        rest = after;
-        number = number.saturating_add(1);
-        if let Some(count) = team {
-            return match parse_lines(alloc, rest, number) {
-                Ok(steps) => Ok((count, steps)),
-                Err(error) => Err(error),
-            };
-        }
+    let team = match parse_team(text) {
+        Ok(team) => team,
+        Err(bad) => return Err(ParseError::Bad(bad)),
+    };
+    match parse_lines(alloc, team.lines, team.first) {
+        Ok(steps) => Ok((team.count, steps)),
+        Err(error) => Err(error),
     }
-    Err(ParseError::Bad(BadLine {
-        line: 1,
-        why: Why::FirstLine,
-    }))
 }
 
 /// The steps of these lines, of which the first has this number.
@@ -187,7 +214,7 @@ fn parse_lines(alloc: Global, lines: Option<&[u8]>, first: u64) -> Result<Vec<St
 
 /// The first bad line of these, of which the first has this number; want of memory if none is bad.
 /// A line whose items find no memory is not bad.
-fn first_fault(alloc: Global, lines: Option<&[u8]>, first: u64) -> ParseError
+pub fn first_fault(alloc: Global, lines: Option<&[u8]>, first: u64) -> ParseError
     ensures { result ≡ refused_by (steps_left first (option_copied lines.entry)) }
 {
     let mut rest = lines;
@@ -237,8 +264,9 @@ fn read_team(line: &[u8]) -> Result<Option<u32>, Why>
     Ok(Some(count))
 }
 
-/// The step of a line, if it has one.
-fn read_step(alloc: Global, line: &[u8]) -> Result<Option<Step>, LineError>
+/// The step of a line, if it has one. The error is the first of its faults; or want of memory, but only for a line that has items
+/// of a `depend` clause and no fault.
+pub fn read_step(alloc: Global, line: &[u8]) -> Result<Option<Step>, LineError>
     ensures step { Reads result (read_line step_of line.now) }
     ensures memory { IsErrOf result NoMemory → LineHasItems (read_line step_of line.now) }
 {
@@ -247,6 +275,27 @@ fn read_step(alloc: Global, line: &[u8]) -> Result<Option<Step>, LineError>
     };
     let step = step_words(alloc, word, rest)?;
     Ok(Some(step))
+}
+
+/// The member that asks for its next chunk, if the line is that step. A loop makes it again and again, so who answers line by line
+/// looks for it first: it takes no [`Step`], which has room for the words of a single.
+#[tactic(auto, using(crate::proofs::TextLemmas::next_read))]
+pub fn next_member(line: &[u8]) -> Option<u16>
+    ensures { IfSome result (λ member. IsNext member line.now) }
+{
+    let Ok(Some((member, rest))) = first_word(line) else {
+        return None;
+    };
+    let Ok((call, rest)) = take_word(rest) else {
+        return None;
+    };
+    if !is_word(call, b"next") || finish(rest).is_err() {
+        return None;
+    }
+    match member_of(member) {
+        Ok(member) => Some(member),
+        Err(_) => None,
+    }
 }
 
 /// The first word of a line, and the rest of the line after it. None if the line has no word, or

@@ -1,1 +1,2 @@
+pub mod AnsweredLines
 pub mod ServingExamples

@@ -1,20 +1,24 @@
-//! From a text of steps to the text of their replies, and the exit status.
+//! From a text of steps to the text of their replies, line by line, and the exit status.
 
-ghost use Rattle.std.specs.Prelude.{◌≡◌, ◌↔◌, length, string_bytes, vec_len, Err, IfOk};
-ghost use Rattle.gomp_types.specs.Limits.{IsTeamSize};
-ghost use Rattle.gomp_types.specs.declared.refusal.Refusal.TheVariants.{BadTeam};
-ghost use Rattle.gomp_model.specs.Team.{Caused};
-ghost use Rattle.gomp_core.specs.Stands.{standard_terms};
-ghost use Rattle.gomp_core.specs.Resolved.{record_of};
+ghost use Rattle.std.specs.Prelude.{◌≡◌, ◌++◌, [], false, option_copied, string_bytes, IfOk, OnOk};
+ghost use Rattle.gomp_types.specs.Limits.{standard};
+ghost use Rattle.gomp_icv.specs.Variables.{Variables};
+ghost use Rattle.gomp_core.specs.Stands.{Stands, members_of};
+ghost use Rattle.gomp_script.specs.StepText.{read_line, step_of, steps_left};
+ghost use Rattle.gomp_script.specs.Printing.{reply_line};
 ghost use Rattle.gomp_service.specs.Statuses.{is_size};
-ghost use Rattle.gomp_steps.specs.Output.{IsAnswer, Runs};
+ghost use Rattle.gomp_steps.specs.Output.{AnswersLine, AnswerToLines, AnswerToSteps, IsAnswer, IsBadLine, TellsLine, code_after};
 
-use gomp_core::run;
+use gomp_core::Team;
 use gomp_icv::Icv;
-use gomp_script::{ParseError, parse_steps, print_bad_line, print_refusal, print_replies};
-use gomp_service::answer::{Answer, status_of, team_size};
+use gomp_script::{
+    BadLine, LineError, ParseError, TeamLine, first_fault, next_member, parse_team, print_bad_line,
+    print_refusal, print_reply, read_step,
+};
+use gomp_service::answer::{Answer, lacks, team_size};
 use gomp_shares::Shares;
-use gomp_types::{Refusal, Reply, Step};
+use gomp_text::cut_at;
+use gomp_types::{Call, Refusal, Reply};
 use std::alloc::{AllocError, Global};
 
 /// The replies to a text of steps, a line for each, of a team by these control variables; or why the
@@ -26,52 +30,127 @@ pub(crate) fn answer_steps<S: Shares + Drop>(
 ) -> Result<Answer, AllocError>
     ensures { IfOk result (IsAnswer icv text.now) }
 {
-    match parse_steps(alloc, text) {
-        Ok((count, steps)) => answer_team::<S>(alloc, icv, count, steps),
-        Err(ParseError::Bad(bad)) => Ok(Answer {
-            text: print_bad_line(alloc, &bad)?,
-            code: 1,
-        }),
-        Err(ParseError::Memory) => Err(AllocError),
+    match parse_team(text) {
+        Ok(line) => answer_team::<S>(alloc, icv, line),
+        Err(bad) => answer_bad_line(alloc, &bad),
     }
 }
 
-/// The replies of a team of this many members to these steps, a line for each; or why the team is
-/// refused.
+/// The replies of the team that this line asks for to the steps behind it; or why one of these lines or the team is refused.
 fn answer_team<S: Shares + Drop>(
     alloc: Global,
     icv: Icv,
-    count: u32,
-    steps: Vec<Step>,
+    line: TeamLine<'_>,
 ) -> Result<Answer, AllocError>
-    ensures { IfOk result (λ answer. Runs icv (is_size count) count steps.items
+    ensures { IfOk result (λ answer. AnswerToLines icv line.entry.count
+        (steps_left line.entry.first (option_copied line.entry.lines))
         (string_bytes answer.text) answer.code) }
 {
-    match replies_of::<S>(alloc, icv, team_size(count), steps) {
-        Ok(replies) => Ok(Answer {
-            text: print_replies(alloc, replies.as_slice())?,
-            code: status_of(replies.as_slice()),
-        }),
-        Err(Refusal::BadTeam) => Ok(Answer {
-            text: print_refusal(alloc, &Refusal::BadTeam)?,
-            code: 2,
-        }),
+    match Team::<S>::new(alloc, team_size(line.count), icv) {
+        Ok(team) => answer_lines(alloc, team, line.lines, line.first),
+        Err(Refusal::BadTeam) => refuse_team(alloc, line),
         Err(_) => Err(AllocError),
     }
 }
 
-/// The replies to these steps, without the team that gave them. Refused as [`run`] is.
-fn replies_of<S: Shares + Drop>(
+/// The replies of a new team to the steps of these lines, of which the first has this number, a line for each; or the first
+/// bad one. A step is answered before the next line is read, so neither steps nor replies are kept, and the answers go if a line is bad.
+fn answer_lines<S: Shares + Drop>(
     alloc: Global,
-    icv: Icv,
-    members: u16,
-    steps: Vec<Step>,
-) -> Result<Vec<Reply>, Refusal>
-    ensures size { result ≡ Err BadTeam ↔ (IsTeamSize members → ⊥) }
-    ensures each { IfOk result (λ replies. vec_len replies ≡ length steps.items) }
-    ensures caused { IfOk result (λ replies.
-        Caused (standard_terms members icv) (record_of icv steps.items replies.items)) }
+    team: Team<S>,
+    lines: Option<&[u8]>,
+    first: u64,
+) -> Result<Answer, AllocError>
+    requires new { Stands S.stands S.members team [] }
+    requires limits { team.board.limits ≡ standard }
+    ensures { IfOk result (λ answer. AnswerToSteps team.icv (members_of team)
+        (steps_left first (option_copied lines.entry)) (string_bytes answer.text) answer.code) }
 {
-    let (_, replies) = run::<S>(alloc, members, icv, steps)?;
-    Ok(replies)
+    let mut team = team;
+    let mut answer = Answer {
+        text: String::new(alloc),
+        code: 0,
+    };
+    let mut rest = lines;
+    let mut number = first;
+    while let Some(lines) = rest {
+        let (line, after) = cut_at(lines, b'\n');
+        match answer_line(alloc, &mut team, line, &mut answer) {
+            Ok(()) => {}
+            Err(error) => return refuse_line(alloc, number, error),
+        }
+        rest = after;
+        number = number.saturating_add(1);
+    }
+    Ok(answer)
+}
+
+/// Refuses the line of this number, which is bad. The error is want of memory, be it of the line's.
+fn refuse_line(alloc: Global, number: u64, error: LineError) -> Result<Answer, AllocError>
+    ensures { IfOk result (λ answer. TellsLine number error
+        (string_bytes answer.text) answer.code) }
+{
+    match error {
+        LineError::Fault(why) => answer_bad_line(alloc, &BadLine { line: number, why }),
+        LineError::NoMemory => Err(AllocError),
+    }
+}
+
+/// Puts the reply to the step of this line behind an answer, if the line has a step. The error is its first fault, or want of memory.
+fn answer_line<S: Shares + Drop>(
+    alloc: Global,
+    team: &mut Team<S>,
+    line: &[u8],
+    answer: &mut Answer,
+) -> Result<(), LineError>
+    ensures { AnswersLine S.stands S.members
+        (team.old, team.new) (answer.old, answer.new) (read_line step_of line.now) result }
+{
+    match next_member(line) {
+        Some(member) => tell(&team.step(member, Call::LoopNext), answer)?,
+        None => match read_step(alloc, line)? {
+            Some(step) => tell(&team.step(step.member, step.call), answer)?,
+            None => {}
+        },
+    }
+    Ok(())
+}
+
+/// Puts the line of this reply behind an answer, and its status to that.
+fn tell(reply: &Reply, answer: &mut Answer) -> Result<(), AllocError>
+    ensures text { OnOk result (string_bytes answer.new.text ≡
+        string_bytes answer.old.text ++ reply_line reply.now) }
+    ensures code { OnOk result (answer.new.code ≡ code_after reply.now answer.old.code) }
+{
+    print_reply(reply, &mut answer.text)?;
+    if lacks(reply) {
+        answer.code = 3;
+    }
+    Ok(())
+}
+
+/// Refuses a team of this size, which no team may have, unless one of the lines is bad.
+fn refuse_team(alloc: Global, line: TeamLine<'_>) -> Result<Answer, AllocError>
+    requires size { is_size line.count ≡ false }
+    ensures { (icv : Variables) → IfOk result (λ answer. AnswerToLines icv line.entry.count
+        (steps_left line.entry.first (option_copied line.entry.lines))
+        (string_bytes answer.text) answer.code) }
+{
+    match first_fault(alloc, line.lines, line.first) {
+        ParseError::Bad(bad) => answer_bad_line(alloc, &bad),
+        ParseError::Memory => Ok(Answer {
+            text: print_refusal(alloc, &Refusal::BadTeam)?,
+            code: 2,
+        }),
+    }
+}
+
+/// Tells of a bad line.
+fn answer_bad_line(alloc: Global, bad: &BadLine) -> Result<Answer, AllocError>
+    ensures { IfOk result (λ answer. IsBadLine bad.now (string_bytes answer.text) answer.code) }
+{
+    Ok(Answer {
+        text: print_bad_line(alloc, bad)?,
+        code: 1,
+    })
 }

@@ -11,17 +11,22 @@ pub fn unsigned(word: &[u8], most: u64) -> Option<u64>
     if word.is_empty() {
         return None;
     }
-    let mut number: u128 = 0;
+    let mut number: u64 = 0;
     for byte in word {
         if !byte.is_ascii_digit() {
             return None;
         }
-        number = number * 10 + (byte - b'0') as u128;
-        if number > most as u128 {
+        if number > most / 10 {
             return None;
         }
+        let tens = number * 10;
+        let digit = (byte - b'0') as u64;
+        if digit > most - tens {
+            return None;
+        }
+        number = tens + digit;
     }
-    Some(number as u64)
+    Some(number)
 }
 
 /// The number that digits write, before which `-` may stand. None if there is no digit, or
