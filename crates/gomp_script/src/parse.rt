@@ -283,6 +283,10 @@ pub fn read_step(alloc: Global, line: &[u8]) -> Result<Option<Step>, LineError>
 pub fn next_member(line: &[u8]) -> Option<u16>
     ensures { IfSome result (λ member. IsNext member line.now) }
 {
+    // Any other line is read once more, whole: so the end of it is looked at first.
+    if !line.ends_with(b" next") {
+        return None;
+    }
     let Ok(Some((member, rest))) = first_word(line) else {
         return None;
     };
