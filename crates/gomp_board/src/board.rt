@@ -102,6 +102,8 @@ impl Board {
     /// test is made here. It is enough that none refuses it on one list of events for which the board
     /// stands. `NoMemory`, if it asks for room and its memory is refused, is the one refusal that is
     /// left; then nothing changes.
+    // Where the caller knows which operation it is, the compiler cuts the rest away.
+    #[inline(always)]
     pub fn step_admitted(&mut self, member: u16, op: &Op) -> Reply
         requires member { member < members_of self.old }
         requires admitted { IsOpAdmittedOnce op.now member self.old }

@@ -89,6 +89,16 @@ fn beside_refusal(book: &LockBook, owner: Owner, call: &Call) -> Option<Refusal>
     }
 }
 
+/// Whether the task that this member executes holds a critical name, and so meets no work-share and no
+/// barrier: of the calls on these the one test that names and locks make.
+#[inline(always)]
+pub fn holds_name(book: &LockBook, member: u16, task: Task) -> bool
+    ensures { (p : Past) → BookStands book.now p → executed_task member p.events ≡ task →
+        Always HoldRule p.events → result ≡ holds_critical (asker member p.events) p.events }
+{
+    critical_refusal(book, owner_of(member, task)).is_some()
+}
+
 /// Answers a call on names and locks that no test refuses, by this member, numbered from 0, which
 /// executes this task, or goes on with one that waits (`repeated`). Only the first start of a name and
 /// the making of a lock take memory: if it is refused, the answer is `NoMemory` and nothing changes.

@@ -15,4 +15,5 @@ pub mod Refused
 pub mod Refutations
 pub mod StandsExamples
 pub mod Stepping
+pub mod Unrefused
 pub mod WaitsThere

@@ -1,5 +1,5 @@
 -- When a team stands for a record. (own)
-use Rattle.std.specs.Prelude.{ℕ, ◌≡◌, ◌≢◌, List, [], ◌∷◌, Option, Some, None, length, option_and_then, slice_get}
+use Rattle.std.specs.Prelude.{ℕ, ◌≡◌, ◌≢◌, false, List, [], ◌∷◌, Option, Some, None, length, option_and_then, slice_get}
 use Rattle.gomp_types.specs.declared.call.Call.{Call}
 use Rattle.gomp_types.specs.declared.call.Call.TheVariants.{Resume}
 use Rattle.gomp_types.specs.declared.call.Step.{Step}
@@ -16,7 +16,9 @@ use Rattle.gomp_locks.specs.Book.{BookView}
 use Rattle.gomp_model.specs.Past.{Terms, Waits, no_waits, Past}
 use Rattle.gomp_model.specs.Calls.{row_of}
 use Rattle.gomp_types.specs.Resumes.{call_meant, is_resume}
-use Rattle.gomp_model.specs.Team.{Record, row_at, past_of, Caused}
+use Rattle.gomp_types.specs.Least.{least}
+use Rattle.gomp_locks.specs.Holders.{asker, holds_critical}
+use Rattle.gomp_model.specs.Team.{Record, row_at, member_tests, refusal_of, past_of, Caused}
 use Rattle.gomp_icv.specs.Variables.{Variables}
 use Rattle.gomp_board.specs.declared.op.Op.TheVariants.{Break}
 use Rattle.gomp_board.specs.Boards.{BoardView, IsSame, Performs}
@@ -80,6 +82,16 @@ pub record Stands {S : Type 0} (stands : S → List Event → Type 0) (members :
   pub limits_are : capped_limits team.board.limits ≡ team.board.limits
   -- one place for each member in the shares
   pub shares_size : members team.shares ≡ members_of team
+
+-- after each record for which the team stands no test refuses the step
+abbrev pub IsUnrefused : {S : Type 0} → (S → List Event → Type 0) → (S → ℕ) → TeamView S → Step → Type 0
+IsUnrefused stands members team step = (before : Record) → Stands stands members team before → refusal_of (past team before) step ≡ None
+
+-- no test refuses the member that is made whatever it calls; it waits nowhere, and the task that it executes holds no critical name
+pub record IsFree (m : ℕ) (p : Past) : Type 0 where
+  pub member : least (member_tests p.terms.members m p.events) ≡ None
+  pub quiet : (p.waits m).open_call ≡ None
+  pub nameless : holds_critical (asker m p.events) p.events ≡ false
 
 -- a member that ends its share by this step was answered before that nothing is left of it, or the share is cancelled
 abbrev pub EndsDrained : {S : Type 0} → (S → List Event → Type 0) → TeamView S → Record → Step → Type 0

@@ -22,6 +22,7 @@ use gomp_types::{Call, Reply, Server, Shape};
 ///
 /// No test of the call holds. It may find no memory if it takes some (`NoMemory`); then nothing
 /// changes (OpenMP API 5.2, chapters 11, 12 and 15, section 18.9).
+#[inline(always)]
 pub fn team_reply<S: Shares>(
     shares: &mut S,
     board: &mut Board,
@@ -43,14 +44,20 @@ pub fn team_reply<S: Shares>(
         (record { stands = S.stands; call = call.now; manner = manner; m = member; reply = result })
         (all_parts shares.old board.old book.old) (all_parts shares.new board.new book.new) }
 {
-    // gomp_dispatch asks it again, of calls that are no book's: it is a number in a table, and it has no arm for the book.
-    match call.served_by() {
-        Server::Book => {
-            let task = board.current(member);
-            book_admitted(book, member, task, call, manner.repeated)
-        }
-        Server::Shares | Server::Board | Server::Team => {
+    match call {
+        // Where the caller knows that it is one of these, the compiler cuts the rest away.
+        Call::LoopNext | Call::Barrier => {
             call_admitted(shares, board, member, call, starts, manner)
         }
+        // gomp_dispatch asks it again, of calls that are no book's: it is a number in a table, and it has no arm for the book.
+        _ => match call.served_by() {
+            Server::Book => {
+                let task = board.current(member);
+                book_admitted(book, member, task, call, manner.repeated)
+            }
+            Server::Shares | Server::Board | Server::Team => {
+                call_admitted(shares, board, member, call, starts, manner)
+            }
+        },
     }
 }

@@ -1,6 +1,7 @@
 //! A team that one thread steps.
 
-ghost use Rattle.std.specs.Prelude.{◌≡◌, ◌<◌, ◌↔◌, ◌⊎◌, ◌∷◌, List, [], IfOk, Ok, Err, None, Some, option_copied, replicate};
+ghost use Rattle.std.specs.Prelude.{◌≡◌, ◌<◌, ◌↔◌, ◌⊎◌, ◌∷◌, true, List, [], IfOk, Ok, Err, None, Some, option_copied, replicate};
+ghost use Rattle.gomp_types.specs.declared.call.Call.TheVariants.{LoopNext, Barrier, Resume};
 ghost use Rattle.std.specs.Result.{result_err};
 ghost use Rattle.gomp_types.specs.declared.refusal.Refusal.{Refusal};
 ghost use Rattle.gomp_types.specs.declared.refusal.Refusal.TheVariants.{BadTeam, NoMemory, Mismatch};
@@ -14,14 +15,15 @@ ghost use Rattle.gomp_model.specs.Team.{Record, row_at, member_tests, wait_tests
 ghost use Rattle.gomp_board.specs.Boards.{Stands as BoardStands, members_of as board_members};
 ghost use Rattle.gomp_dispatch.specs.Answers.{StartsShare};
 ghost use Rattle.gomp_dispatch.specs.Leaves.{leaves_nothing};
-ghost use Rattle.gomp_core.specs.Stands.{Stands, Begins, EndsDrained, open_call_of, terms_by, Keeps, past, terms_of, members_of};
+ghost use Rattle.gomp_core.specs.Stands.{Stands, IsFree, IsUnrefused, Begins, EndsDrained, open_call_of, terms_by, Keeps, past, terms_of, members_of};
 ghost use Rattle.gomp_core.specs.LocksMade.{lock_kinds_of, locks_made};
 ghost use Rattle.gomp_core.specs.Resolved.{resolved_call, resolved_step, step_by};
 
 use crate::reply::team_reply;
 use crate::waits::Waits;
 use gomp_board::{Board, Op};
-use gomp_book_calls::book_refusal;
+use gomp_book_calls::{book_refusal, holds_name};
+use gomp_dispatch::lets::{lets_barrier, lets_next};
 use gomp_dispatch::{
     Leaving, Manner, call_shape, leaving_refusal, place_of, task_refusal, unless_refused,
 };
@@ -222,9 +224,21 @@ impl<S: Shares> Team<S> {
             Stands S.stands S.members self.new
             ((resolved_step self.old.icv (step_by member call), result) ∷ before) }
     {
-        let mut call = call;
-        resolve_call(&self.icv, &mut call);
-        self.perform(member, call)
+        let _ = &self.icv; // opens the invariant
+        // The calls that a program makes most often, if nothing refuses them: the compiler cuts the answer
+        // down to each.
+        match call {
+            Call::LoopNext if self.lets_next(member) => {
+                self.answer_call(member, Call::LoopNext, &None)
+            }
+            Call::Barrier if self.lets_barrier(member) => {
+                self.answer_call(member, Call::Barrier, &None)
+            }
+            Call::Resume if self.lets_wait_on(member) => {
+                self.answer_call(member, Call::Resume, &None)
+            }
+            _ => self.any_step(member, call),
+        }
     }
 
     /// The call of this member, numbered from 0, that its resume would repeat: the one that waits, if
@@ -239,6 +253,22 @@ impl<S: Shares> Team<S> {
             Some(waits) => waits.open_call(),
             None => None,
         }
+    }
+
+    /// The reply to any call.
+    #[inline(always)]
+    fn any_step(&mut self, member: u16, call: Call) -> Reply
+        ensures keeps { Keeps self.old self.new call result }
+        ensures answer { (before : Record) → Stands S.stands S.members self.old before →
+            MayAnswer (past self.old before)
+            (resolved_step self.old.icv (step_by member call)) result }
+        ensures stands { (before : Record) → Stands S.stands S.members self.old before →
+            Stands S.stands S.members self.new
+            ((resolved_step self.old.icv (step_by member call), result) ∷ before) }
+    {
+        let mut call = call;
+        resolve_call(&self.icv, &mut call);
+        self.perform(member, call)
     }
 
     /// The reply to a call that has the schedule which counts.
@@ -261,6 +291,7 @@ impl<S: Shares> Team<S> {
 
     /// The reply to a call that no test refuses, and that starts a share of this shape if it starts
     /// one.
+    #[inline(always)]
     fn answer_call(&mut self, member: u16, call: Call, starts: &Option<Shape>) -> Reply
         requires admitted { (before : Record) → Stands S.stands S.members self.old before →
             refusal_of (past self.old before) (step_by member call) ≡ None }
@@ -295,6 +326,76 @@ impl<S: Shares> Team<S> {
         self.leaving[member as usize] = leaving.after(&reply, meant);
         self.waits[member as usize].note(&reply, call);
         reply
+    }
+
+    /// Whether nothing refuses the member its next chunk.
+    #[inline(always)]
+    fn lets_next(&self, member: u16) -> bool
+        ensures { result ≡ true →
+            IsUnrefused S.stands S.members self.now (step_by member LoopNext) }
+    {
+        let _ = &self.icv; // opens the invariant
+        if !self.is_free(member) {
+            return false;
+        }
+        let leaving = self.leaving[member as usize];
+        lets_next(&self.shares, &self.board, member, leaving)
+    }
+
+    /// Whether nothing refuses the member the arrival at a barrier.
+    #[inline(always)]
+    fn lets_barrier(&self, member: u16) -> bool
+        ensures { result ≡ true →
+            IsUnrefused S.stands S.members self.now (step_by member Barrier) }
+    {
+        let _ = &self.icv; // opens the invariant
+        if !self.is_free(member) {
+            return false;
+        }
+        let leaving = self.leaving[member as usize];
+        lets_barrier(&self.shares, &self.board, member, leaving)
+    }
+
+    /// Whether the member waits at a barrier, and nothing refuses it to wait on.
+    #[inline(always)]
+    fn lets_wait_on(&self, member: u16) -> bool
+        ensures unrefused { result ≡ true →
+            IsUnrefused S.stands S.members self.now (step_by member Resume) }
+        ensures waits { result ≡ true →
+            (before : Record) → Stands S.stands S.members self.now before →
+            ((past self.now before).waits member).open_call ≡ Some Barrier }
+    {
+        let _ = &self.icv; // opens the invariant
+        if member as usize >= self.waits.len() {
+            return false;
+        }
+        match self.waits[member as usize].open_call() {
+            Some(Call::Barrier) => member_refusal(&self.board, member).is_none(),
+            _ => false,
+        }
+    }
+
+    /// Whether the member may make a call on the shares or at a barrier, for all that is not asked of
+    /// its place: it is one of the team, in the region, and waits nowhere; the team is whole, and the task
+    /// that it executes holds no critical name.
+    #[inline(always)]
+    fn is_free(&self, member: u16) -> bool
+        ensures member { result ≡ true → member < members_of self.now }
+        ensures free { result ≡ true →
+            (before : Record) → Stands S.stands S.members self.now before →
+            IsFree member (past self.now before) }
+    {
+        let _ = &self.icv; // opens the invariant
+        if member as usize >= self.waits.len() {
+            return false;
+        }
+        if self.waits[member as usize].open_call().is_some() {
+            return false;
+        }
+        if member_refusal(&self.board, member).is_some() {
+            return false;
+        }
+        !holds_name(&self.book, member, self.board.current(member))
     }
 
     /// Breaks the team: the member's call is another than other members'.

@@ -56,6 +56,7 @@ impl Waits {
     /// `Wait` leaves that open; at `Run` the member starts a task above it; at `TaskDone` the call at
     /// which the task was started waits again; a refusal changes nothing, and any other reply closes
     /// the wait.
+    #[inline(always)]
     pub fn note(&mut self, reply: &Reply, call: Call)
         requires room { (task code arg : ℕ) → reply.now ≡ Run task code arg false →
             length self.old.beneath < MAX_TASK_DEPTH }
@@ -66,7 +67,18 @@ impl Waits {
             Reply::Wait => self.wait(call),
             Reply::Run { own: false, .. } => self.suspend(call),
             Reply::TaskDone { waiting: true, .. } => self.open_innermost(),
-            _ => self.open = None,
+            _ => self.close(),
+        }
+    }
+
+    /// No call waits from now on.
+    #[inline(always)]
+    fn close(&mut self)
+        ensures { self.new ≡ record self.old { open_call = None } }
+    {
+        // Most often none does, and to write that costs the size of a call.
+        if self.open.is_some() {
+            self.open = None;
         }
     }
 

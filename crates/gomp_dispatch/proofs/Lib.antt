@@ -6,6 +6,7 @@ pub mod LawRefutations
 pub mod Laws
 pub mod LeavesAfter
 pub mod LeavingTests
+pub mod LetCalls
 pub mod OpAnswers
 pub mod PartExamples
 pub mod Refused

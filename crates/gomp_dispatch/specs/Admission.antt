@@ -1,14 +1,15 @@
 -- For which pasts a call is tested, and what its member's place has shown of it before. (own)
-use Rattle.std.specs.Prelude.{ℕ, ◌≡◌, Bool, true, List, Option, None}
+use Rattle.std.specs.Prelude.{ℕ, ◌≡◌, Bool, true, false, List, Option, None}
 use Rattle.gomp_types.specs.declared.limits.Limits.{Limits}
 use Rattle.gomp_types.specs.declared.refusal.Refusal.{Refusal}
 use Rattle.gomp_types.specs.Least.{least}
 use Rattle.gomp_events.specs.declared.event.Event.{Event}
 use Rattle.gomp_events.specs.declared.seen.Seen.{Seen}
 use Rattle.gomp_model.specs.Past.{Past}
-use Rattle.gomp_model.specs.Row.{Row}
+use Rattle.gomp_model.specs.Row.{Row, leaving_tests, place_tests, board_tests}
+use Rattle.gomp_board.specs.Boards.{BoardView}
 use Rattle.gomp_dispatch.specs.declared.leaving.Leaving.{Leaving}
-use Rattle.gomp_dispatch.specs.Answers.{ByPlace}
+use Rattle.gomp_dispatch.specs.Answers.{ByPlace, ServersStand}
 use Rattle.gomp_dispatch.specs.Leaves.{LeavesAs}
 
 -- of each past for whose events the parts stand this holds
@@ -26,3 +27,16 @@ WasPlaced repeated row limits seen = repeated ≡ true → row.stays ≡ true �
 -- what a call's place refuses, of a member that leaves so and by that may give up its share
 abbrev pub ByPlaceLeaving : Leaving → ℕ → Row → Limits → Seen → Option Refusal → Type 0
 ByPlaceLeaving leaving m row limits seen found = (h : List Event) → LeavesAs leaving m h → ByPlace row limits (row.gives_up m h) seen found
+
+-- of each past for which the parts stand, and in which the member leaves so, this holds
+abbrev pub EachStandsSo : {S : Type 0} → (S → List Event → Type 0) → S → BoardView → Leaving → ℕ → (Past → Type 0) → Type 0
+EachStandsSo stands shares board leaving m P = (p : Past) → ServersStand stands shares board p → LeavesAs leaving m p.events → P p
+
+-- no test of the parts refuses a member a call with this row that it makes
+pub record PartsLet (row : Row) (m : ℕ) (p : Past) : Type 0 where
+  -- it leaves nothing, or the call lets it
+  pub leaving : least (leaving_tests false row m p) ≡ None
+  -- its place lets it, and no other member's construct differs
+  pub place : least (place_tests false row m p) ≡ None
+  -- tasks, groups and cancellation let it, and there is room
+  pub board : least (board_tests false row m p) ≡ None

@@ -28,6 +28,7 @@ use gomp_types::{Call, Refusal, Reply, Server, Shape};
 /// nothing changes then. If a call that waits is asked about again and waits on, nothing changes.
 /// In a cancelled region a call that would wait at its share or at a barrier is answered
 /// `Cancelled` (OpenMP API 5.2, section 16.1).
+#[inline(always)]
 pub fn call_admitted<S: Shares>(
     shares: &mut S,
     board: &mut Board,
@@ -43,16 +44,28 @@ pub fn call_admitted<S: Shares>(
     requires team { members_of board.old ≡ S.members shares.old }
     requires admitted { SomeServersAdmit S.stands shares.old board.old
         (row_of call.now) manner member }
-    ensures members { S.members shares.new ≡ S.members shares.old }
     ensures answers { AnswersCall (asked_so S.stands (row_of call.now) manner member)
         shares.old shares.new board.old board.new result }
+    ensures members { S.members shares.new ≡ S.members shares.old }
 {
-    // Asked by the team too, for the book alone, of which this crate knows nothing.
-    match call.served_by() {
-        Server::Shares => share_admitted(shares, board, member, call, starts, manner),
-        Server::Board => board_admitted(board, member, call, manner),
-        Server::Team => together_admitted(shares, board, member, call, starts, manner),
-        Server::Book => unreachable!(),
+    match call {
+        // Two calls that a program makes again and again: where the caller knows that it is one of these, the
+        // compiler cuts the rest away.
+        Call::LoopNext => {
+            let team = CancelTerms {
+                cancelled: board.is_cancelled(),
+                allowed: manner.allowed,
+            };
+            share_reply(shares, member, call, starts, team)
+        }
+        Call::Barrier => arrival_reply(shares, board, member, Arrival::Barrier, manner),
+        // Asked by the team too, for the book alone, of which this crate knows nothing.
+        _ => match call.served_by() {
+            Server::Shares => share_admitted(shares, board, member, call, starts, manner),
+            Server::Board => board_admitted(board, member, call, manner),
+            Server::Team => together_admitted(shares, board, member, call, starts, manner),
+            Server::Book => unreachable!(),
+        },
     }
 }
 

@@ -50,6 +50,7 @@ impl Leaving {
     /// What the member leaves after this reply to the call that it made or repeated: the region if
     /// it was answered `Cancelled`, what its construct named if that is cancelled, and no task that
     /// it has just started, nor one to which it comes back.
+    #[inline(always)]
     pub fn after(self, reply: &Reply, call: &Call) -> Leaving
         ensures { result ≡ leaving_after reply.now call.now self }
     {
@@ -122,7 +123,7 @@ pub fn leaving_refusal<S: Shares>(
 }
 
 /// Whether a member that sees this of its place leaves something.
-fn is_leaving(seen: &Seen, leaving: Leaving) -> bool
+pub(crate) fn is_leaving(seen: &Seen, leaving: Leaving) -> bool
     ensures { result ≡ (leaving.region || seen.now.leaving || leaving.task) }
 {
     leaving.region || seen.leaving || leaving.task

@@ -13,6 +13,7 @@
 pub mod answer;
 mod arrivals;
 pub mod leaving;
+pub mod lets;
 pub mod refusals;
 mod room;
 mod shares;

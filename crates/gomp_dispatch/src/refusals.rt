@@ -236,7 +236,7 @@ fn ordered_end_refusal(seen: &Seen) -> Option<Refusal>
 }
 
 /// Why the member may not arrive at a barrier, or at the region's end: `InsideShare`.
-fn barrier_refusal(seen: &Seen) -> Option<Refusal>
+pub(crate) fn barrier_refusal(seen: &Seen) -> Option<Refusal>
     ensures { result ≡ least (outside_tests seen.now) }
 {
     if seen.current.is_some() {
@@ -405,7 +405,7 @@ fn compared_share_refusal<S: Shares>(shares: &mut S, member: u16, shape: &Shape)
 /// Why the member may not arrive so at its next barrier: `Mismatch` if others arrived there
 /// otherwise. A member that has arrived (`repeated`) is not compared any more, nor is one of a
 /// cancelled region.
-fn compared_arrival_refusal<S: Shares>(
+pub(crate) fn compared_arrival_refusal<S: Shares>(
     shares: &S,
     barriers: &Barriers,
     member: u16,

@@ -15,6 +15,7 @@ use gomp_types::{Call, CancelKind, EndKind, Reply};
 /// For how many events the call asks room (own): for those of a task or a group, for an arrival at
 /// a barrier, at the start of a construct for the barrier at its end, or for its words, and for the
 /// cancellation of the region or of a group.
+#[inline(always)]
 pub(crate) fn room_asked(call: &Call) -> u32
     ensures { result ≡ (row_of call.now).room }
 {
@@ -51,6 +52,7 @@ fn cancel_room(kind: CancelKind) -> u32
 }
 
 /// The same, if the call is not repeated: then its room was asked for.
+#[inline(always)]
 pub(crate) fn asked_once(repeated: bool, call: &Call) -> u32
     ensures { result ≡ asked_once repeated (row_of call.now).room }
 {
@@ -60,6 +62,7 @@ pub(crate) fn asked_once(repeated: bool, call: &Call) -> u32
 
 /// Has the board keep so much more room of the member, which its call asked for when it was tested:
 /// whether it does. If there is no memory for it, nothing changes.
+#[inline(always)]
 pub(crate) fn keep_room(board: &mut Board, member: u16, more: u32) -> bool
     requires member { member < members_of board.old }
     requires admitted { 0 < more → IsOpAdmittedOnce (Reserve more) member board.old }

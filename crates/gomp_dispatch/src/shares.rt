@@ -41,6 +41,7 @@ pub(crate) struct CancelTerms {
 /// In a cancelled region a call that would wait is answered `Cancelled`.
 ///
 /// The call was tested, and its room is kept: here it is performed.
+#[inline(always)]
 pub(crate) fn share_reply<S: Shares>(
     shares: &mut S,
     member: u16,

@@ -1,10 +1,10 @@
 //! What words ask of an engine.
 
-ghost use Rattle.std.specs.Prelude.{ℕ, ◌≡◌, ◌<◌, ◌^◌, [], ◌∷◌, IfOk, IfSome, IsErr, IsSome};
+ghost use Rattle.std.specs.Prelude.{ℕ, ◌≡◌, ◌<◌, ◌^◌, ◌↔◌, [], ◌∷◌, IfOk, IfSome, IsErr, IsSome};
 ghost use Rattle.gomp_words.specs.StepWords.{HasItems};
 ghost use Rattle.gomp_words.specs.declared.step.StepRead.TheVariants as asks;
 ghost use Rattle.gomp_engine.specs.declared.call.EngineCall.TheVariants.{TeamStep};
-ghost use Rattle.gomp_engine.specs.Calls.{own_call_of, engine_call_of};
+ghost use Rattle.gomp_engine.specs.Calls.{IsFrequent, own_call_of, engine_call_of};
 
 use gomp_types::{Call, Step};
 use gomp_words::{StepRead, read_step};
@@ -28,28 +28,36 @@ pub fn read_engine_call(alloc: Global, words: &[u64]) -> Result<EngineCall, Allo
     ensures call { IfOk result (λ call. call ≡ engine_call_of words.now) }
     ensures memory { IsErr result → HasItems words.now }
 {
-    match next_chunk(words) {
+    match frequent_step(words) {
         Some(step) => Ok(EngineCall::TeamStep(StepRead::Step(step))),
         None => read_any(alloc, words),
     }
 }
 
-/// The step by which a member asks for its next chunk, if these words ask for that. A loop makes it
-/// again and again, so it is looked for first.
-fn next_chunk(words: &[u64]) -> Option<Step>
+/// The step by which a member asks for its next chunk, arrives at a barrier or asks again, if these words ask for that. A
+/// program makes these again and again, so they are looked for first.
+fn frequent_step(words: &[u64]) -> Option<Step>
     ensures told { IfSome result (λ step. engine_call_of words.now ≡ TeamStep (asks.Step step)) }
-    ensures finds { (member : ℕ) → member < 2 ^ 16 → words.now ≡ 2 ∷ member ∷ [] →
-        IsSome result }
+    ensures finds { (kind member : ℕ) → member < 2 ^ 16 → words.now ≡ kind ∷ member ∷ [] →
+        IsFrequent kind → IsSome result }
 {
     match words {
-        [2, member] => match u16::try_from(*member) {
-            Ok(member) => Some(Step {
-                member,
-                call: Call::LoopNext,
-            }),
-            Err(_) => None,
-        },
+        [2, member] => step_by(*member, Call::LoopNext),
+        [16, member] => step_by(*member, Call::Barrier),
+        [36, member] => step_by(*member, Call::Resume),
         _ => None,
+    }
+}
+
+/// The step in which this member makes the call. None if no team has a member of this number.
+fn step_by(member: u64, call: Call) -> Option<Step>
+    ensures made { IfSome result (λ step.
+        step ≡ record { member = member; call = call }) }
+    ensures below { IsSome result ↔ (member < 2 ^ 16) }
+{
+    match u16::try_from(member) {
+        Ok(member) => Some(Step { member, call }),
+        Err(_) => None,
     }
 }
 

@@ -42,6 +42,7 @@ pub fn loop_start_refusal(seen: &Seen, limits: &Limits, desc: &LoopDesc) -> Opti
 /// The reply to a member that was given this piece of its share, from iteration `low` on, `high`
 /// excluded: the value of the first iteration and how many there are. `NoChunk` if it was given
 /// none.
+#[inline(always)]
 pub fn piece_reply(shape: &Shape, piece: Option<(u64, u64)>) -> Reply
     requires shape { IsShape shape.now }
     requires within { ForSome piece (λ p. (p.0 < p.1) × (p.1 ≤ shape.now.trips)) }

@@ -82,6 +82,7 @@ pub fn loop_next<S: Shares>(shares: &mut S, member: u16) -> Reply
 /// (`gomp_shares::admission::next_refusal`).
 ///
 /// `Wait` as [`loop_next`] has it.
+#[inline(always)]
 pub fn loop_next_admitted<S: Shares>(shares: &mut S, member: u16) -> Reply
     requires member { member < S.members shares.old }
     requires place { least (next_tests (S.seen shares.old member)) ≡ None }

@@ -1,15 +1,20 @@
 -- Texts, line by line.
-use Rattle.std.proofs.Common.{◌≡◌, ◌≢◌, ℕ, ◌<◌, true, suc, List, [], ◌∷◌, ◌++◌, Option, Some, None, Result, Ok, Err, length, Bor, refl, ap, ◌∙◌, sym, append_assoc, arith}
-use Rattle.std.specs.Prelude.{IfSome, IsSome, codes, option_copied}
+use Rattle.std.proofs.Common.{◌≡◌, ◌≢◌, ℕ, ◌<◌, ◌+◌, ◌-◌, ◌*◌, inl, inr, true, false, suc, List, [], ◌∷◌, ◌++◌, Option, Some, None, Result, Ok, Err, length, Bor, refl, ap, ◌∙◌, sym, append_assoc, arith}
+use Rattle.std.specs.Prelude.{IfSome, IsSome, codes, option_copied, nat_lt, ◌==◌}
+use Rattle.std.specs.List.{slice_split}
+use Rattle.std.proofs.lemmas.Bool.{cases_Bool}
+use Rattle.std.proofs.lemmas.Bool.Decides.{nat_tests}
+use Rattle.gomp_text.specs.Numbers.{is_digit, digits_after, up_to}
 use Rattle.gomp_types.specs.declared.call.Step.{Step}
 use Rattle.gomp_script.specs.declared.parse.BadLine.{BadLine}
 use Rattle.gomp_script.specs.declared.parse.ParseError.{ParseError}
 use Rattle.gomp_script.specs.declared.parse.ParseError.TheVariants.{Memory, Bad}
-use Rattle.gomp_text.specs.Words.{lines_of, same_word}
+use Rattle.gomp_text.specs.Words.{is_ascii, lines_of, same_word, words_of}
 use Rattle.gomp_text.proofs.WordLemmas.{same_means}
 use Rattle.gomp_types.specs.declared.call.Call.TheVariants.{LoopNext}
 use Rattle.gomp_script.specs.declared.parse.Why.{Why}
-use Rattle.gomp_script.specs.StepText.{IsNext, LineHasItems, bad_line, line_words, member_named, no_more_words, plain_step, fault_in, next_word, call_step, step_of, lines_left, with_front, step_line, steps_kept, with_team, Fails, HasStep, TeamHasStep, refused_by}
+use Rattle.gomp_script.specs.declared.parse.Why.TheVariants.{BadNumber}
+use Rattle.gomp_script.specs.StepText.{IsNext, LineHasItems, bad_line, line_words, or_why, member_named, no_more_words, plain_step, fault_in, next_word, call_step, step_of, lines_left, with_front, step_line, steps_kept, with_team, Fails, HasStep, TeamHasStep, refused_by}
 
 -- how much is left
 abbrev pub left : Option (List ℕ) → ℕ
@@ -99,8 +104,56 @@ step_by_call member (word ∷ words) taken is =
     ap (λ (parts : List ℕ × List (List ℕ)). call_step member parts.0 parts.1) here
 
 -- a line in which a member asks for its next chunk, by its words
-pub next_read : (line member call : List ℕ) (words later : List (List ℕ)) (number : ℕ) → line_words line ≡ Ok (member ∷ words) → next_word words ≡ Ok (call, later) → same_word call (codes "next") ≡ true → no_more_words later ≡ Ok tt → member_named member ≡ Ok number → IsNext number line
+next_read : (line member call : List ℕ) (words later : List (List ℕ)) (number : ℕ) → line_words line ≡ Ok (member ∷ words) → next_word words ≡ Ok (call, later) → same_word call (codes "next") ≡ true → no_more_words later ≡ Ok tt → member_named member ≡ Ok number → IsNext number line
 unfolding plain_step
 next_read line member call words later number first taken is done named =
     let made : step_of (member ∷ words) ≡ Ok (record { member = number; call = LoopNext }) = step_by_call member words (call, later) taken ∙ rw (same_means call (codes "next") is, named, done) refl in
     rw (first, made) refl
+
+-- A number before `next`
+
+-- the digits of a number that is read
+digits_named : (found : Option ℕ) (most number : ℕ) → or_why BadNumber (up_to most found) ≡ Ok number → (k : ℕ) × (found ≡ Some k)
+digits_named None most number e = absurd (cc)
+digits_named (Some k) most number e = (k, refl)
+
+digit_is_ascii : (b : ℕ) → is_digit b ≡ true → nat_lt b 128 ≡ true
+digit_is_ascii b e = grind (arith, nat_tests)
+
+digit_is_no_space : (b : ℕ) → is_digit b ≡ true → (b == 32) ≡ false
+digit_is_no_space b e = grind (arith, nat_tests)
+
+digit_is_no_comment : (b : ℕ) → is_digit b ≡ true → (b == 35) ≡ false
+digit_is_no_comment b e = grind (arith, nat_tests)
+
+-- the first of them, and the others
+digits_by_one : (n b k : ℕ) (bytes : List ℕ) → digits_after n (b ∷ bytes) ≡ Some k → (is_digit b ≡ true) × (digits_after (n * 10 + (b - 48)) bytes ≡ Some k)
+digits_by_one n b k bytes e =
+    elim (cases_Bool (is_digit b)) [
+      | inl is ↦ (is, rw is at e)
+      | inr other ↦ absurd (let none : None ≡ Some k = rw other at e in cc)
+    ]
+
+digits_ascii : (n k : ℕ) (bytes tail : List ℕ) → digits_after n bytes ≡ Some k → is_ascii tail ≡ true → is_ascii (bytes ++ tail) ≡ true
+digits_ascii n k [] tail e low = low
+digits_ascii n k (b ∷ bytes) tail e low =
+    let (digit, later) = digits_by_one n b k bytes e in
+    rw (digit_is_ascii b digit) (digits_ascii (n * 10 + (b - 48)) k bytes tail later low)
+
+-- a space behind them begins the next part
+digits_split : (n k : ℕ) (bytes tail : List ℕ) → digits_after n bytes ≡ Some k → slice_split (λ c. c == 32) (bytes ++ 32 ∷ tail) ≡ bytes ∷ slice_split (λ c. c == 32) tail
+digits_split n k [] tail e = refl
+digits_split n k (b ∷ bytes) tail e =
+    let (digit, later) = digits_by_one n b k bytes e in
+    rw (digit_is_no_space b digit, digits_split (n * 10 + (b - 48)) k bytes tail later) refl
+
+-- a line of a number and `next`
+pub next_named : (line head : List ℕ) (number : ℕ) → line ≡ head ++ codes " next" → member_named head ≡ Ok number → IsNext number line
+next_named line [] number is named = absurd (cc)
+next_named line (b ∷ bytes) number is named =
+    let (k, digits) = digits_named (digits_after 0 (b ∷ bytes)) 65535 number named in
+    let (digit, later) = digits_by_one 0 b k bytes digits in
+    let low : is_ascii line ≡ true = rw is (digits_ascii 0 k (b ∷ bytes) (codes " next") digits refl) in
+    let words : words_of line ≡ (b ∷ bytes) ∷ codes "next" ∷ [] = rw (is, digits_split 0 k (b ∷ bytes) (codes "next") digits) refl in
+    let first : line_words line ≡ Ok ((b ∷ bytes) ∷ codes "next" ∷ []) = rw (low, words, digit_is_no_comment b digit) refl in
+    next_read line (b ∷ bytes) (codes "next") (codes "next" ∷ []) [] number first refl refl refl named

@@ -279,23 +279,13 @@ pub fn read_step(alloc: Global, line: &[u8]) -> Result<Option<Step>, LineError>
 
 /// The member that asks for its next chunk, if the line is that step. A loop makes it again and again, so who answers line by line
 /// looks for it first: it takes no [`Step`], which has room for the words of a single.
-#[tactic(auto, using(crate::proofs::TextLemmas::next_read))]
 pub fn next_member(line: &[u8]) -> Option<u16>
     ensures { IfSome result (λ member. IsNext member line.now) }
 {
-    // Any other line is read once more, whole: so the end of it is looked at first.
-    if !line.ends_with(b" next") {
-        return None;
-    }
-    let Ok(Some((member, rest))) = first_word(line) else {
+    // Any other line is read once more, whole: so the end of it is looked at first. A number before it is one word, the first.
+    let Some(member) = line.strip_suffix(b" next") else {
         return None;
     };
-    let Ok((call, rest)) = take_word(rest) else {
-        return None;
-    };
-    if !is_word(call, b"next") || finish(rest).is_err() {
-        return None;
-    }
     match member_of(member) {
         Ok(member) => Some(member),
         Err(_) => None,

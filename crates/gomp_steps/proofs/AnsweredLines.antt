@@ -1,6 +1,6 @@
 -- The lines of a text that are answered, one after another.
 use Rattle.std.proofs.Common.{◌≡◌, ◌≤◌, ℕ, List, [], ◌∷◌, ◌++◌, Bool, true, false, Ok, Err, Result, length, refl, ap, ◌∙◌, sym, subst, arith, length-append, append-nil}
-use Rattle.std.specs.Prelude.{flat_map, if◌then◌else◌, string_bytes, min, Option, Some, None, IfOk}
+use Rattle.std.specs.Prelude.{flat_map, if◌then◌else◌, string_bytes, min, Option, Some, None, IfOk, OnOk}
 use Rattle.std.specs.declared.alloc.AllocError.{AllocError}
 use Rattle.std.proofs.lemmas.List.Concat.{flat_map-append}
 use Rattle.gomp_types.specs.declared.call.Step.{Step}
@@ -126,3 +126,8 @@ module _ {S : Type 0} (stands : S → List Event → Type 0) (members : S → �
   more_answered after answer steps replies None so_far nothing = (replies, rw (nothing.0, nothing.1) so_far)
   more_answered after answer steps replies (Some step) so_far more =
       (replies ++ more.reply ∷ [], rw (more.text_is, more.code_is) (one_more after steps replies (string_bytes answer.0.text) answer.0.code step more.reply so_far more.keeps more.stands_now))
+
+-- what two facts of an end that is no error make is one of it
+pub both_on_ok : {A E P Q R : Type 0} (done : Result A E) → OnOk done P → OnOk done Q → (P → Q → R) → OnOk done R
+both_on_ok (Ok found) one other make = make one other
+both_on_ok (Err error) one other make = tt

@@ -1,13 +1,15 @@
 //! From a text of steps to the text of their replies, line by line, and the exit status.
 
 ghost use Rattle.std.specs.Prelude.{◌≡◌, ◌++◌, [], false, option_copied, string_bytes, IfOk, OnOk};
+ghost use Rattle.gomp_types.specs.declared.call.Call.TheVariants.{LoopNext};
 ghost use Rattle.gomp_types.specs.Limits.{standard};
 ghost use Rattle.gomp_icv.specs.Variables.{Variables};
+ghost use Rattle.gomp_core.specs.Resolved.{step_by};
 ghost use Rattle.gomp_core.specs.Stands.{Stands, members_of};
 ghost use Rattle.gomp_script.specs.StepText.{read_line, step_of, steps_left};
 ghost use Rattle.gomp_script.specs.Printing.{reply_line};
 ghost use Rattle.gomp_service.specs.Statuses.{is_size};
-ghost use Rattle.gomp_steps.specs.Output.{AnswersLine, AnswerToLines, AnswerToSteps, IsAnswer, IsBadLine, TellsLine, code_after};
+ghost use Rattle.gomp_steps.specs.Output.{AnswersLine, AnswersStep, AnswerToLines, AnswerToSteps, IsAnswer, IsBadLine, TellsLine, code_after};
 
 use gomp_core::Team;
 use gomp_icv::Icv;
@@ -107,13 +109,56 @@ fn answer_line<S: Shares + Drop>(
         (team.old, team.new) (answer.old, answer.new) (read_line step_of line.now) result }
 {
     match next_member(line) {
-        Some(member) => tell(&team.step(member, Call::LoopNext), answer)?,
-        None => match read_step(alloc, line)? {
-            Some(step) => tell(&team.step(step.member, step.call), answer)?,
-            None => {}
-        },
+        Some(member) => Ok(answer_next(team, member, answer)?),
+        None => answer_any_line(alloc, team, line, answer),
     }
-    Ok(())
+}
+
+/// The same of any line.
+// A frame of its own: that of a next chunk stays small.
+#[inline(never)]
+fn answer_any_line<S: Shares + Drop>(
+    alloc: Global,
+    team: &mut Team<S>,
+    line: &[u8],
+    answer: &mut Answer,
+) -> Result<(), LineError>
+    ensures { AnswersLine S.stands S.members
+        (team.old, team.new) (answer.old, answer.new) (read_line step_of line.now) result }
+{
+    match read_step(alloc, line)? {
+        Some(step) => Ok(answer_step(team, step.member, step.call, answer)?),
+        None => Ok(()),
+    }
+}
+
+/// Has the team answer a member that asks for its next chunk, and puts the line of the reply behind an answer.
+// A frame of its own too: neither has the other's.
+#[inline(never)]
+fn answer_next<S: Shares + Drop>(
+    team: &mut Team<S>,
+    member: u16,
+    answer: &mut Answer,
+) -> Result<(), AllocError>
+    ensures { OnOk result (AnswersStep S.stands S.members
+        (team.old, team.new) (answer.old, answer.new) (step_by member LoopNext)) }
+{
+    answer_step(team, member, Call::LoopNext, answer)
+}
+
+/// Has the team answer a step, and puts the line of the reply behind an answer.
+#[inline(always)]
+fn answer_step<S: Shares + Drop>(
+    team: &mut Team<S>,
+    member: u16,
+    call: Call,
+    answer: &mut Answer,
+) -> Result<(), AllocError>
+    ensures { OnOk result (AnswersStep S.stands S.members
+        (team.old, team.new) (answer.old, answer.new) (step_by member call)) }
+{
+    let reply = team.step(member, call);
+    tell(&reply, answer)
 }
 
 /// Puts the line of this reply behind an answer, and its status to that.

@@ -1,8 +1,6 @@
-use Rattle.std.proofs.Common.{ap, ◌∙◌}
-use Rattle.gomp_core.specs.Resolved.{resolved_call}
+use Rattle.std.proofs.Common.{refl}
 use Rattle.gomp_core.proofs.team.Team.step.Goals as goal
 
-pub returns-clause-keeps : goal.returns-clause-keeps
-returns-clause-keeps g c =
-    let kept = c.perform.ensures.keeps in
-    record { members = kept.members; icv = kept.icv; limits = kept.limits; refused = kept.refused; lacks = kept.lacks; broken = kept.broken; waits = λ same resume. kept.waits same (c.resolve_call.ensures ∙ ap (resolved_call c.self.inside.icv) resume) }
+-- the barrier at which it waits starts no share
+pub answer_call-requires-in-Resume-clause-starts : goal.answer_call-requires-in-Resume-clause-starts
+answer_call-requires-in-Resume-clause-starts g c = λ before st. rw (c.lets_wait_on.ensures.waits c.if-lets_wait_on.true before st) (refl, tt)
