@@ -101,7 +101,10 @@ void inside_start(struct inside *inside)
 void inside_begin(struct inside *inside, int size)
 {
     const uint64_t words[] = {WORDS_NEW_TEAM, (uint64_t)size};
-    if (step(inside, words, 2).kind != NEW_TEAM)
+    blocks_keep(&inside->blocks);
+    uint64_t answer = step(inside, words, 2).kind;
+    blocks_keep(NULL);
+    if (answer != NEW_TEAM)
         end_by_fault("no memory for a team of %d", size);
 }
 

@@ -2,6 +2,7 @@
 #ifndef DILLBEAM_INSIDE_H
 #define DILLBEAM_INSIDE_H
 
+#include "blocks.h"
 #include "call.h"
 
 // An answer as crates/gomp_engine gives it: the number of its kind, and what else it says.
@@ -11,6 +12,7 @@ struct numbers {
 
 struct inside {
     void *team;             // that dillbeam_open gave
+    struct blocks blocks;   // of its last team
     struct numbers unknown; // the answer that was no reply, for a message
 };
 

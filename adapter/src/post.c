@@ -137,10 +137,11 @@ APART void post_call(struct team *team, int number, bool asks_again, const struc
 {
     struct member *member = &team->members[number];
     unsigned posts = atomic_load_explicit(&member->posts, memory_order_relaxed);
+    bool is_large = team->size > FEW_MEMBERS; // a posted region's end is the last that the member knows of the team
     member->asks_again = asks_again;
     member->posted = *call;
     atomic_store_explicit(&member->posts, (unsigned char)(posts + 1), memory_order_release);
-    if (team->size > FEW_MEMBERS)
+    if (is_large)
         atomic_store(&team->has_posts, true);
     wait_until_told(team, number, true);
     take_told(member, reply);

@@ -102,6 +102,7 @@ impl Barriers {
     }
 
     /// What the member, numbered from 0, sees of its next barrier.
+    #[inline(always)]
     pub fn look(&self, member: u16) -> AtBarrier
         requires member { member < barrier_members self.now }
         ensures known { (h : List Event) × Stands self.now h }
@@ -117,6 +118,7 @@ impl Barriers {
     }
 
     /// The number of the member's next barrier, as `look` has it; members are numbered from 0.
+    #[inline(always)]
     pub fn number(&self, member: u16) -> u64
         requires member { member < barrier_members self.now }
         ensures known { (h : List Event) × Stands self.now h }
@@ -127,6 +129,7 @@ impl Barriers {
     }
 
     /// Whether the member, numbered from 0, has passed the region's end.
+    #[inline(always)]
     pub fn has_left(&self, member: u16) -> bool
         requires member { member < barrier_members self.now }
         ensures known { (h : List Event) × Stands self.now h }
@@ -178,6 +181,7 @@ impl Barriers {
 
     /// Whether the member, numbered from 0, waits at a barrier: it has arrived there, and has not
     /// passed it.
+    #[inline(always)]
     pub fn at_barrier(&self, member: u16) -> bool
         requires member { member < barrier_members self.now }
         ensures known { (h : List Event) × Stands self.now h }
@@ -256,6 +260,7 @@ impl Barriers {
     }
 
     /// Whether some member has cancelled the region. OpenMP API 5.2, section 16.1.
+    #[inline(always)]
     pub fn is_cancelled(&self) -> bool
         ensures known { (h : List Event) × Stands self.now h }
         ensures value { (h : List Event) → Stands self.now h → result ≡ is_cancelled h }

@@ -37,6 +37,7 @@ pub struct Front {
 }
 
 /// Whether the member has passed the front. A pass of a cancelled region's end does not count here.
+#[inline(always)]
 pub fn is_ahead(front: &Front, member: &BarrierSeat) -> bool
     ensures { result ≡ is_ahead front.now member.now }
 {
@@ -51,6 +52,7 @@ pub fn has_odd_number(member: &BarrierSeat) -> bool
 }
 
 /// With which tag any member has arrived at the member's next barrier: none if nobody has.
+#[inline(always)]
 pub fn tag_for(front: &Front, member: &BarrierSeat) -> Option<Tag>
     ensures { result ≡ tag_for front.now member.now }
 {
@@ -68,6 +70,7 @@ pub fn tag_for(front: &Front, member: &BarrierSeat) -> Option<Tag>
 }
 
 /// The number of the member's next barrier.
+#[inline(always)]
 pub fn number_for(front: &Front, member: &BarrierSeat) -> u64
     ensures { result ≡ number_for front.now member.now }
 {

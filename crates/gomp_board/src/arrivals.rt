@@ -101,6 +101,7 @@ impl Board {
     }
 
     /// The member's arrival comes to the history.
+    #[inline(always)]
     fn note_arrival(&mut self, member: u16, tag: Tag)
         requires member { member < members_of self.old }
         requires first { (h : List Event) → Stands self.old h → ArrivesFirst member tag h }
@@ -171,6 +172,7 @@ impl Board {
 
 /// The room that an arrival asks for if its member has kept so much: none at the region's end, and
 /// none at the end of a share that has kept it.
+#[inline(always)]
 pub(crate) fn arrival_asks(kind: Arrival, kept: u32) -> u32
     ensures { result ≡ arrival_asks kind kept }
 {
@@ -190,6 +192,7 @@ fn given_back(back: u32, kept: u32) -> u32
 }
 
 /// What its member keeps after it: the end of a share uses what was kept.
+#[inline(always)]
 fn arrival_keeps(kind: Arrival, kept: u32) -> u32
     ensures { result ≡ arrival_keeps kind kept }
 {

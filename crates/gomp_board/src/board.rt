@@ -145,6 +145,7 @@ impl Board {
     }
 
     /// The task that the member, numbered from 0, executes.
+    #[inline(always)]
     pub fn current(&self, member: u16) -> Task
         requires member { member < members_of self.now }
         ensures known { Stands self.now (reverse self.now.history) }

@@ -19,6 +19,7 @@ use gomp_types::{Clash, Dep, Limits, Refusal};
 
 impl Board {
     /// The team's barriers: who has arrived where.
+    #[inline(always)]
     pub fn barriers(&self) -> &Barriers
         ensures value { result.now ≡ self.now.scheduler.barriers }
         ensures members { barrier_members result.now ≡ members_of self.now }
@@ -42,6 +43,7 @@ impl Board {
 
     /// Why the member, numbered from 0, does not make a call that no explicit task makes:
     /// `InsideTask` if it executes one (OpenMP API 5.2, section 17.1).
+    #[inline(always)]
     pub fn inside_task_refusal(&self, member: u16) -> Option<Refusal>
         requires member { member < members_of self.now }
         ensures value { (h : List Event) → Stands self.now h →
@@ -154,6 +156,7 @@ impl Board {
 
     /// Why no room is asked for so many events more: `TraceFull` if the team's limit does not allow
     /// it. There is always room for none.
+    #[inline(always)]
     pub fn room_refusal(&self, more: u32) -> Option<Refusal>
         ensures value { result ≡ least (room_tests self.now.limits self.now.room more) }
     {

@@ -286,6 +286,7 @@ impl Board {
     }
 
     /// Whether so much more room is asked for than the limit allows.
+    #[inline(always)]
     pub(crate) fn lacks_room(&self, more: u32) -> bool
         ensures { result ≡ lacks_room self.now.limits.events self.now.room more }
     {
@@ -310,6 +311,7 @@ pub(crate) fn has_too_many(items: &[Dep]) -> bool
 }
 
 /// The refusal if the test holds, and else the other one.
+#[inline(always)]
 pub(crate) fn first(holds: bool, refusal: Refusal, other: Option<Refusal>) -> Option<Refusal>
     ensures { result ≡ (if holds then Some refusal else other) }
 {

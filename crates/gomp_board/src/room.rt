@@ -28,6 +28,7 @@ impl Board {
 
     /// Asks for room for so many events more than before. It fails, and nothing changes, if their
     /// memory is refused.
+    #[inline(always)]
     pub(crate) fn make_room(&mut self, more: u32) -> Result<(), AllocError>
         requires few { self.old.room + more < 2 ^ 32 }
         ensures room { OnOk result (self.new ≡ record self.old { room = self.old.room + more }) }

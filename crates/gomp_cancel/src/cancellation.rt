@@ -93,6 +93,7 @@ impl Cancellation {
 
     /// Whether the region is cancelled. A cancellation point that names it answers so (OpenMP API
     /// 5.2, section 16.2).
+    #[inline(always)]
     pub fn is_cancelled(&self) -> bool
         ensures value { (h : List Event) → CancelStands self.now h → result ≡ is_cancelled h }
     {

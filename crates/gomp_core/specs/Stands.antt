@@ -1,7 +1,7 @@
 -- When a team stands for a record. (own)
-use Rattle.std.specs.Prelude.{ℕ, ◌≡◌, ◌≢◌, false, List, [], ◌∷◌, Option, Some, None, length, option_and_then, slice_get}
+use Rattle.std.specs.Prelude.{ℕ, ◌≡◌, ◌≢◌, ◌⊎◌, false, List, [], ◌∷◌, Option, Some, None, length, option_and_then, slice_get}
 use Rattle.gomp_types.specs.declared.call.Call.{Call}
-use Rattle.gomp_types.specs.declared.call.Call.TheVariants.{Resume}
+use Rattle.gomp_types.specs.declared.call.Call.TheVariants.{Barrier, RegionEnd, Resume}
 use Rattle.gomp_types.specs.declared.call.Step.{Step}
 use Rattle.gomp_types.specs.declared.limits.Limits.{Limits}
 use Rattle.gomp_types.specs.declared.refusal.Place.{Place}
@@ -92,6 +92,10 @@ pub record IsFree (m : ℕ) (p : Past) : Type 0 where
   pub member : least (member_tests p.terms.members m p.events) ≡ None
   pub quiet : (p.waits m).open_call ≡ None
   pub nameless : holds_critical (asker m p.events) p.events ≡ false
+
+-- a call at which a member waits outside of every share
+abbrev pub WaitsOutside : Option Call → Type 0
+WaitsOutside waiting = (waiting ≡ Some Barrier) ⊎ (waiting ≡ Some RegionEnd)
 
 -- a member that ends its share by this step was answered before that nothing is left of it, or the share is cancelled
 abbrev pub EndsDrained : {S : Type 0} → (S → List Event → Type 0) → TeamView S → Record → Step → Type 0

@@ -46,7 +46,7 @@ pub fn team_reply<S: Shares>(
 {
     match call {
         // Where the caller knows that it is one of these, the compiler cuts the rest away.
-        Call::LoopNext | Call::Barrier => {
+        Call::LoopNext | Call::Barrier | Call::RegionEnd => {
             call_admitted(shares, board, member, call, starts, manner)
         }
         // gomp_dispatch asks it again, of calls that are no book's: it is a number in a table, and it has no arm for the book.

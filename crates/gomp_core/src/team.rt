@@ -1,7 +1,7 @@
 //! A team that one thread steps.
 
 ghost use Rattle.std.specs.Prelude.{◌≡◌, ◌<◌, ◌↔◌, ◌⊎◌, ◌∷◌, true, List, [], IfOk, Ok, Err, None, Some, option_copied, replicate};
-ghost use Rattle.gomp_types.specs.declared.call.Call.TheVariants.{LoopNext, Barrier, Resume};
+ghost use Rattle.gomp_types.specs.declared.call.Call.TheVariants.{LoopNext, Barrier, RegionEnd, Resume};
 ghost use Rattle.std.specs.Result.{result_err};
 ghost use Rattle.gomp_types.specs.declared.refusal.Refusal.{Refusal};
 ghost use Rattle.gomp_types.specs.declared.refusal.Refusal.TheVariants.{BadTeam, NoMemory, Mismatch};
@@ -15,7 +15,7 @@ ghost use Rattle.gomp_model.specs.Team.{Record, row_at, member_tests, wait_tests
 ghost use Rattle.gomp_board.specs.Boards.{Stands as BoardStands, members_of as board_members};
 ghost use Rattle.gomp_dispatch.specs.Answers.{StartsShare};
 ghost use Rattle.gomp_dispatch.specs.Leaves.{leaves_nothing};
-ghost use Rattle.gomp_core.specs.Stands.{Stands, IsFree, IsUnrefused, Begins, EndsDrained, open_call_of, terms_by, Keeps, past, terms_of, members_of};
+ghost use Rattle.gomp_core.specs.Stands.{Stands, IsFree, IsUnrefused, WaitsOutside, Begins, EndsDrained, open_call_of, terms_by, Keeps, past, terms_of, members_of};
 ghost use Rattle.gomp_core.specs.LocksMade.{lock_kinds_of, locks_made};
 ghost use Rattle.gomp_core.specs.Resolved.{resolved_call, resolved_step, step_by};
 
@@ -23,7 +23,7 @@ use crate::reply::team_reply;
 use crate::waits::Waits;
 use gomp_board::{Board, Op};
 use gomp_book_calls::{book_refusal, holds_name};
-use gomp_dispatch::lets::{lets_barrier, lets_next};
+use gomp_dispatch::lets::{lets_barrier, lets_next, lets_region_end};
 use gomp_dispatch::{
     Leaving, Manner, call_shape, leaving_refusal, place_of, task_refusal, unless_refused,
 };
@@ -234,6 +234,9 @@ impl<S: Shares> Team<S> {
             Call::Barrier if self.lets_barrier(member) => {
                 self.answer_call(member, Call::Barrier, &None)
             }
+            Call::RegionEnd if self.lets_region_end(member) => {
+                self.answer_call(member, Call::RegionEnd, &None)
+            }
             Call::Resume if self.lets_wait_on(member) => {
                 self.answer_call(member, Call::Resume, &None)
             }
@@ -356,14 +359,28 @@ impl<S: Shares> Team<S> {
         lets_barrier(&self.shares, &self.board, member, leaving)
     }
 
-    /// Whether the member waits at a barrier, and nothing refuses it to wait on.
+    /// Whether the member leaves nothing, and nothing refuses it the region's end.
+    #[inline(always)]
+    fn lets_region_end(&self, member: u16) -> bool
+        ensures { result ≡ true →
+            IsUnrefused S.stands S.members self.now (step_by member RegionEnd) }
+    {
+        let _ = &self.icv; // opens the invariant
+        if !self.is_free(member) {
+            return false;
+        }
+        let leaving = self.leaving[member as usize];
+        lets_region_end(&self.shares, &self.board, member, leaving)
+    }
+
+    /// Whether the member waits at a barrier or at the region's end, and nothing refuses it to wait on.
     #[inline(always)]
     fn lets_wait_on(&self, member: u16) -> bool
         ensures unrefused { result ≡ true →
             IsUnrefused S.stands S.members self.now (step_by member Resume) }
         ensures waits { result ≡ true →
             (before : Record) → Stands S.stands S.members self.now before →
-            ((past self.now before).waits member).open_call ≡ Some Barrier }
+            WaitsOutside ((past self.now before).waits member).open_call }
     {
         let _ = &self.icv; // opens the invariant
         if member as usize >= self.waits.len() {
@@ -371,6 +388,7 @@ impl<S: Shares> Team<S> {
         }
         match self.waits[member as usize].open_call() {
             Some(Call::Barrier) => member_refusal(&self.board, member).is_none(),
+            Some(Call::RegionEnd) => member_refusal(&self.board, member).is_none(),
             _ => false,
         }
     }

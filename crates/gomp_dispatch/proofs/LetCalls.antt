@@ -1,22 +1,22 @@
 -- What lets a call that is made, and what each of its tests tells then.
 use Rattle.std.proofs.Common.{◌≡◌, ℕ, Bool, true, false, List, [], ◌∷◌, ◌++◌, Option, Some, None, refl, sym, ◌∙◌, subst}
-use Rattle.std.specs.Prelude.{◌&&◌, not, is_some}
+use Rattle.std.specs.Prelude.{◌&&◌, ◌||◌, not, is_some}
 use Rattle.gomp_types.specs.declared.refusal.Refusal.{Refusal}
 use Rattle.gomp_types.specs.declared.refusal.Refusal.TheVariants.{Leaving as LeavingRefusal}
 use Rattle.gomp_types.specs.Tests.{Test}
 use Rattle.gomp_types.specs.Least.{least}
 use Rattle.gomp_types.proofs.LeastTests.{all_fail, fail_first, fail_later, none_holds, least_append}
 use Rattle.gomp_events.specs.declared.seen.Seen.{Seen}
-use Rattle.gomp_events.specs.declared.event.Arrival.TheVariants.{Barrier as BarrierArrival}
+use Rattle.gomp_events.specs.declared.event.Arrival.TheVariants.{Barrier as BarrierArrival, RegionEnd as RegionEndArrival}
 use Rattle.gomp_events.specs.declared.room.TheConstants.{ARRIVAL_ROOM}
-use Rattle.gomp_events.specs.Cancels.{is_leaving}
+use Rattle.gomp_events.specs.Cancels.{is_leaving, leaves_region, leaves_share, leaves_task}
 use Rattle.gomp_events.specs.Seen.{seen_of}
-use Rattle.gomp_events.specs.TaskCalls.{outside_tasks_tests, room_tests}
+use Rattle.gomp_events.specs.TaskCalls.{outside_tasks_tests, end_region_tests, room_tests, unless_given_up}
 use Rattle.gomp_shares.specs.Loops.{next_tests}
 use Rattle.gomp_model.specs.Past.{Past}
-use Rattle.gomp_model.specs.Arrivals.{outside_tests, compared_arrival, barrier_row}
+use Rattle.gomp_model.specs.Arrivals.{outside_tests, compared_arrival, barrier_row, region_end_row}
 use Rattle.gomp_model.specs.Loops.{loop_next_row}
-use Rattle.gomp_dispatch.specs.Admission.{PartsLet}
+use Rattle.gomp_dispatch.specs.Admission.{PartsLet, PartsLetStaying}
 use Rattle.gomp_dispatch.proofs.LeavingTests.{stays_unrefused}
 
 -- Two lists of tests
@@ -83,6 +83,49 @@ let_barrier m p seen is parts = record {
   placed = subst (λ (s : Seen). least (outside_tests s) ≡ None) (sym is) (first_refuses_none (outside_tests (seen_of m p.events)) (compared_arrival BarrierArrival false m p.events) parts.place);
   alike = second_refuses_none (outside_tests (seen_of m p.events)) (compared_arrival BarrierArrival false m p.events) parts.place;
 }
+
+-- The region's end
+
+-- who leaves nothing does not leave the region
+none_of_region : (region share task : Bool) → (region || share || task) ≡ false → region ≡ false
+none_of_region true share task none = absurd (cc)
+none_of_region false share task none = refl
+
+stays_in_region : (m : ℕ) (p : Past) → is_leaving m p.events ≡ false → leaves_region m p.events ≡ false
+stays_in_region m p stays = none_of_region (leaves_region m p.events) (leaves_share m p.events) (leaves_task m p.events) stays
+
+-- and of one that comes to the region's end and leaves nothing
+pub record LetRegionEnd (m : ℕ) (p : Past) (seen : Seen) : Type 0 where
+  pub stays : is_leaving m p.events ≡ false
+  pub outside : least (end_region_tests false m p.events) ≡ None
+  pub placed : least (outside_tests seen) ≡ None
+  pub alike : least (compared_arrival RegionEndArrival false m p.events) ≡ None
+
+pub region_end_let : (m : ℕ) (p : Past) (seen : Seen) → seen ≡ seen_of m p.events → LetRegionEnd m p seen → PartsLetStaying region_end_row m p
+region_end_let m p seen is own =
+    let inside = stays_in_region m p own.stays in
+    let placed : least (outside_tests (seen_of m p.events)) ≡ None = subst (λ (s : Seen). least (outside_tests s) ≡ None) is own.placed in (
+      own.stays,
+      record {
+        leaving = sym (stays_unrefused (is_leaving m p.events) (leaves_region m p.events) own.stays);
+        place = subst (λ (b : Bool). least (unless_given_up b (outside_tests (seen_of m p.events)) ++ compared_arrival RegionEndArrival false m p.events) ≡ None) (sym inside)
+            (neither_refuses (outside_tests (seen_of m p.events)) (compared_arrival RegionEndArrival false m p.events) placed own.alike);
+        board = subst (λ (b : Bool). least (end_region_tests b m p.events ++ room_tests p.terms.limits p.room 0) ≡ None) (sym inside)
+            (neither_refuses (end_region_tests false m p.events) (room_tests p.terms.limits p.room 0) own.outside refl);
+      },
+    )
+
+pub let_region_end : (m : ℕ) (p : Past) (seen : Seen) → seen ≡ seen_of m p.events → PartsLetStaying region_end_row m p → LetRegionEnd m p seen
+let_region_end m p seen is (stays, parts) =
+    let inside = stays_in_region m p stays in
+    let place = subst (λ (b : Bool). least (unless_given_up b (outside_tests (seen_of m p.events)) ++ compared_arrival RegionEndArrival false m p.events) ≡ None) inside parts.place in
+    let board = subst (λ (b : Bool). least (end_region_tests b m p.events ++ room_tests p.terms.limits p.room 0) ≡ None) inside parts.board in
+    record {
+      stays = stays;
+      outside = first_refuses_none (end_region_tests false m p.events) (room_tests p.terms.limits p.room 0) board;
+      placed = subst (λ (s : Seen). least (outside_tests s) ≡ None) (sym is) (first_refuses_none (outside_tests (seen_of m p.events)) (compared_arrival RegionEndArrival false m p.events) place);
+      alike = second_refuses_none (outside_tests (seen_of m p.events)) (compared_arrival RegionEndArrival false m p.events) place;
+    }
 
 -- What was found
 

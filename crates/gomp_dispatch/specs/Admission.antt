@@ -5,6 +5,7 @@ use Rattle.gomp_types.specs.declared.refusal.Refusal.{Refusal}
 use Rattle.gomp_types.specs.Least.{least}
 use Rattle.gomp_events.specs.declared.event.Event.{Event}
 use Rattle.gomp_events.specs.declared.seen.Seen.{Seen}
+use Rattle.gomp_events.specs.Cancels.{is_leaving}
 use Rattle.gomp_model.specs.Past.{Past}
 use Rattle.gomp_model.specs.Row.{Row, leaving_tests, place_tests, board_tests}
 use Rattle.gomp_board.specs.Boards.{BoardView}
@@ -40,3 +41,7 @@ pub record PartsLet (row : Row) (m : ℕ) (p : Past) : Type 0 where
   pub place : least (place_tests false row m p) ≡ None
   -- tasks, groups and cancellation let it, and there is room
   pub board : least (board_tests false row m p) ≡ None
+
+-- nor does it leave anything
+abbrev pub PartsLetStaying : Row → ℕ → Past → Type 0
+PartsLetStaying row m p = (is_leaving m p.events ≡ false) × PartsLet row m p

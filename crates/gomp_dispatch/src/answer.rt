@@ -49,7 +49,7 @@ pub fn call_admitted<S: Shares>(
     ensures members { S.members shares.new ≡ S.members shares.old }
 {
     match call {
-        // Two calls that a program makes again and again: where the caller knows that it is one of these, the
+        // Three calls that a program makes again and again: where the caller knows that it is one of these, the
         // compiler cuts the rest away.
         Call::LoopNext => {
             let team = CancelTerms {
@@ -59,6 +59,7 @@ pub fn call_admitted<S: Shares>(
             share_reply(shares, member, call, starts, team)
         }
         Call::Barrier => arrival_reply(shares, board, member, Arrival::Barrier, manner),
+        Call::RegionEnd => arrival_reply(shares, board, member, Arrival::RegionEnd, manner),
         // Asked by the team too, for the book alone, of which this crate knows nothing.
         _ => match call.served_by() {
             Server::Shares => share_admitted(shares, board, member, call, starts, manner),

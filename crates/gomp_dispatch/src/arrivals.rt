@@ -47,6 +47,7 @@ pub(crate) fn end_reply<S: Shares>(
 /// The member arrives at its next barrier, or goes on there if the call is repeated, and passes it
 /// if it may; else it executes a task, or waits. A cancelled region has it arrive at the region's
 /// end alone. The arrival was tested with its call: here it is performed.
+#[inline(always)]
 pub(crate) fn arrival_reply<S: Shares>(
     shares: &S,
     board: &mut Board,
@@ -72,6 +73,7 @@ pub(crate) fn arrival_reply<S: Shares>(
 
 /// An arrival with this tag, of a member that leaves the region or does not (`leaving`), or the
 /// wait after it (`repeated`).
+#[inline(always)]
 fn arrival_op(repeated: bool, leaving: bool, tag: Tag) -> Op
     ensures { result ≡ arrival_op repeated leaving tag }
 {

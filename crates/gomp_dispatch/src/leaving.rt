@@ -123,6 +123,7 @@ pub fn leaving_refusal<S: Shares>(
 }
 
 /// Whether a member that sees this of its place leaves something.
+#[inline(always)]
 pub(crate) fn is_leaving(seen: &Seen, leaving: Leaving) -> bool
     ensures { result ≡ (leaving.region || seen.now.leaving || leaving.task) }
 {

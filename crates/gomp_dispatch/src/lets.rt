@@ -1,5 +1,5 @@
-//! Whether the parts let a member make one of the two calls that a program makes most often: the next
-//! chunk of its loop, and a barrier.
+//! Whether the parts let a member make one of the calls that a program makes most often: the next chunk
+//! of its loop, a barrier, and the region's end.
 //!
 //! [`call_shape`](crate::call_shape), [`task_refusal`](crate::task_refusal) and
 //! [`leaving_refusal`](crate::leaving_refusal) tell of every call why they refuse it. Here it is asked of
@@ -8,10 +8,10 @@
 
 ghost use Rattle.std.specs.Prelude.{◌≡◌, ◌<◌, ◌↔◌, true};
 ghost use Rattle.gomp_barrier.specs.Stands.{barrier_members};
-ghost use Rattle.gomp_model.specs.Arrivals.{barrier_row};
+ghost use Rattle.gomp_model.specs.Arrivals.{barrier_row, region_end_row};
 ghost use Rattle.gomp_model.specs.Loops.{loop_next_row};
 ghost use Rattle.gomp_board.specs.Boards.{members_of};
-ghost use Rattle.gomp_dispatch.specs.Admission.{EachStandsSo, PartsLet};
+ghost use Rattle.gomp_dispatch.specs.Admission.{EachStandsSo, PartsLet, PartsLetStaying};
 
 use crate::leaving::{Leaving, is_leaving};
 use crate::refusals::{barrier_refusal, compared_arrival_refusal};
@@ -64,4 +64,27 @@ pub fn lets_barrier<S: Shares>(shares: &S, board: &Board, member: u16, leaving: 
         return false;
     }
     compared_arrival_refusal(shares, board.barriers(), member, Arrival::Barrier, false).is_none()
+}
+
+/// Whether the member, numbered from 0, leaves nothing and the parts let it come to the region's end: it
+/// executes no explicit task, has no group open, is in no work-share, and no other member has arrived there
+/// otherwise (OpenMP API 5.2, section 15.3.2). Of one that leaves the region it is not asked here.
+#[inline(always)]
+pub fn lets_region_end<S: Shares>(shares: &S, board: &Board, member: u16, leaving: Leaving) -> bool
+    requires member { member < S.members shares.now }
+    requires team { members_of board.now ≡ S.members shares.now }
+    ensures { EachStandsSo S.stands shares.now board.now leaving member
+        (λ p. (result ≡ true) ↔ PartsLetStaying region_end_row member p) }
+{
+    let seen = shares.look(member);
+    if is_leaving(&seen, leaving) {
+        return false;
+    }
+    if board.region_end_place_refusal(member, false).is_some() {
+        return false;
+    }
+    if barrier_refusal(&seen).is_some() {
+        return false;
+    }
+    compared_arrival_refusal(shares, board.barriers(), member, Arrival::RegionEnd, false).is_none()
 }

@@ -236,6 +236,7 @@ fn ordered_end_refusal(seen: &Seen) -> Option<Refusal>
 }
 
 /// Why the member may not arrive at a barrier, or at the region's end: `InsideShare`.
+#[inline(always)]
 pub(crate) fn barrier_refusal(seen: &Seen) -> Option<Refusal>
     ensures { result ≡ least (outside_tests seen.now) }
 {
@@ -405,6 +406,7 @@ fn compared_share_refusal<S: Shares>(shares: &mut S, member: u16, shape: &Shape)
 /// Why the member may not arrive so at its next barrier: `Mismatch` if others arrived there
 /// otherwise. A member that has arrived (`repeated`) is not compared any more, nor is one of a
 /// cancelled region.
+#[inline(always)]
 pub(crate) fn compared_arrival_refusal<S: Shares>(
     shares: &S,
     barriers: &Barriers,
@@ -430,6 +432,7 @@ pub(crate) fn compared_arrival_refusal<S: Shares>(
 }
 
 /// Whether others arrived otherwise at the member's next barrier.
+#[inline(always)]
 fn arrival_differs<S: Shares>(shares: &S, barriers: &Barriers, member: u16, kind: Arrival) -> bool
     requires member { member < S.members shares.now }
     requires team { barrier_members barriers.now ≡ S.members shares.now }

@@ -10,9 +10,9 @@ own_call_of (number ∷ size ∷ []) = if number == 0 then Some (NewTeam size) e
 own_call_of (number ∷ setting ∷ byte ∷ []) = if number == 38 then Some (NameByte setting byte) else None
 own_call_of _ = None
 
--- the numbers of the calls that a program makes most often: the next chunk of a loop, a barrier, a resume
+-- the numbers of the calls that a program makes most often: the next chunk of a loop, a barrier, the region's end, a resume
 abbrev pub IsFrequent : ℕ → Type 0
-IsFrequent number = (number ≡ 2) ⊎ ((number ≡ 16) ⊎ (number ≡ 36))
+IsFrequent number = (number ≡ 2) ⊎ ((number ≡ 16) ⊎ ((number ≡ 17) ⊎ (number ≡ 36)))
 
 -- other words are a step, or nothing; no step has these numbers
 abbrev pub call_or_step : Option EngineCall → List ℕ → EngineCall

@@ -34,8 +34,8 @@ pub fn read_engine_call(alloc: Global, words: &[u64]) -> Result<EngineCall, Allo
     }
 }
 
-/// The step by which a member asks for its next chunk, arrives at a barrier or asks again, if these words ask for that. A
-/// program makes these again and again, so they are looked for first.
+/// The step by which a member asks for its next chunk, arrives at a barrier or at the region's end, or asks again, if these
+/// words ask for that. A program makes these again and again, so they are looked for first.
 fn frequent_step(words: &[u64]) -> Option<Step>
     ensures told { IfSome result (λ step. engine_call_of words.now ≡ TeamStep (asks.Step step)) }
     ensures finds { (kind member : ℕ) → member < 2 ^ 16 → words.now ≡ kind ∷ member ∷ [] →
@@ -44,6 +44,7 @@ fn frequent_step(words: &[u64]) -> Option<Step>
     match words {
         [2, member] => step_by(*member, Call::LoopNext),
         [16, member] => step_by(*member, Call::Barrier),
+        [17, member] => step_by(*member, Call::RegionEnd),
         [36, member] => step_by(*member, Call::Resume),
         _ => None,
     }

@@ -65,6 +65,7 @@ impl Engine {
     /// A new team takes the place of the one that stands, and gets its locks, which nobody holds then;
     /// a size that no team may have changes nothing (`BadTeam`, E38), and if memory for it is refused
     /// (`NoMemory`, E37), no team stands.
+    #[inline(always)]
     pub fn step(&mut self, words: &[u64]) -> Numbers
         ensures { Stepped self.old self.new words.now result }
     {

@@ -55,6 +55,7 @@ impl History {
 
     /// Makes memory for so many events in all. It grows in steps, so that events are seldom moved. It
     /// fails, and nothing changes, if the memory is refused.
+    #[inline(always)]
     pub fn reserve(&mut self, room: u32) -> Result<(), AllocError>
         ensures events { self.new.events ≡ self.old.events }
         ensures memory { OnOk result (self.new.capacity
@@ -107,6 +108,7 @@ impl History {
     }
 
     /// Appends an event that creates no task. There has to be memory for it (`reserve`).
+    #[inline(always)]
     pub fn push(&mut self, event: Event)
         requires space { length self.old.events < self.old.capacity }
         requires other { CreatesNone event }

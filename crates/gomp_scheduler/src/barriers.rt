@@ -20,6 +20,7 @@ impl Scheduler {
     /// The member, numbered from 0, arrives at its next barrier with this tag, unless someone arrived
     /// there with another one: then nothing changes, and the answer is false. In a cancelled region it
     /// arrives at the region's end alone.
+    #[inline(always)]
     pub fn arrive(&mut self, member: u16, tag: Tag) -> bool
         requires member { member < scheduler_members self.old }
         ensures answer { (h : List Event) → Stands self.old h →
@@ -35,6 +36,7 @@ impl Scheduler {
     /// The member, numbered from 0, passes the barrier at which it waits, if it may: every member has
     /// arrived there, and every task that is bound to it is complete. Else nothing changes, and the
     /// answer is false. It costs a step for each member.
+    #[inline(always)]
     pub fn pass(&mut self, member: u16) -> bool
         requires member { member < scheduler_members self.old }
         ensures answer { (h : List Event) → Stands self.old h →
@@ -48,6 +50,7 @@ impl Scheduler {
     }
 
     /// The team's barriers: who has arrived where.
+    #[inline(always)]
     pub fn barriers(&self) -> &Barriers
         ensures value { result.now ≡ self.now.barriers }
         ensures members { barrier_members result.now ≡ scheduler_members self.now }
@@ -56,6 +59,7 @@ impl Scheduler {
     }
 
     /// The number of the next barrier of the member, numbered from 0; it stays at the largest one of its type.
+    #[inline(always)]
     pub fn barrier_number(&self, member: u16) -> u64
         requires member { member < scheduler_members self.now }
         ensures value { (h : List Event) → Stands self.now h →
@@ -65,6 +69,7 @@ impl Scheduler {
     }
 
     /// Whether the member, numbered from 0, has passed the region's end.
+    #[inline(always)]
     pub fn has_left(&self, member: u16) -> bool
         requires member { member < scheduler_members self.now }
         ensures value { (h : List Event) → Stands self.now h →
@@ -74,6 +79,7 @@ impl Scheduler {
     }
 
     /// Whether the member waits at a barrier itself, and does not execute a task there.
+    #[inline(always)]
     pub fn awaits_barrier(&self, member: u16) -> bool
         requires member { member < scheduler_members self.now }
         ensures value { (h : List Event) → Stands self.now h →
@@ -85,6 +91,7 @@ impl Scheduler {
 
     /// Whether a cancelled region has the member arrive nowhere but at its end, or wait there (OpenMP
     /// API 5.2, section 16.1).
+    #[inline(always)]
     pub fn is_cut_short(&self, member: u16) -> bool
         requires member { member < scheduler_members self.now }
         ensures value { (h : List Event) → Stands self.now h →
@@ -118,6 +125,7 @@ impl Scheduler {
     }
 
     /// Whether an arrival of this kind is none: the region is cancelled, and it is not at its end.
+    #[inline(always)]
     pub fn arrives_nowhere(&self, kind: Arrival) -> bool
         ensures value { (h : List Event) → Stands self.now h →
             result ≡ (is_cancelled h && not (is_region_end kind)) }
@@ -161,6 +169,7 @@ fn is_at_end(seen: AtBarrier) -> bool
 }
 
 /// Whether an arrival of this kind is at the region's end.
+#[inline(always)]
 fn ends_region(kind: Arrival) -> bool
     ensures { result ≡ is_region_end kind }
 {

@@ -105,6 +105,7 @@ impl Scheduler {
 
     /// The task that the member, numbered from 0, executes: the explicit one that it has started last
     /// and not ended, or its implicit one.
+    #[inline(always)]
     pub fn current(&self, member: u16) -> Task
         requires member { member < scheduler_members self.now }
         ensures value { (h : List Event) → Stands self.now h → result ≡ executed_task member h }
@@ -113,6 +114,7 @@ impl Scheduler {
     }
 
     /// Whether that is an explicit one.
+    #[inline(always)]
     pub fn in_task(&self, member: u16) -> bool
         requires member { member < scheduler_members self.now }
         ensures value { (h : List Event) → Stands self.now h → result ≡ in_task member h }

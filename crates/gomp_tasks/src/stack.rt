@@ -40,6 +40,7 @@ impl Stack {
     }
 
     /// The innermost task, the one that was started last.
+    #[inline(always)]
     pub fn innermost(&self) -> Option<u32>
         ensures { result ≡ first_in self.now }
     {

@@ -93,6 +93,7 @@ impl Tasks {
 
     /// The task that the member, numbered from 0, executes: the explicit one that it has started
     /// last and not ended, or its implicit one.
+    #[inline(always)]
     pub fn current(&self, member: u16) -> Task
         requires member { member < task_members self.now }
         ensures known { (h : List Event) × Stands self.now h }
@@ -383,6 +384,7 @@ impl Tasks {
     }
 
     /// The innermost task that the member has started and not ended, if there is one.
+    #[inline(always)]
     fn innermost(&self, member: u16) -> Option<u32>
         requires member { member < task_members self.now }
         ensures known { (h : List Event) × Stands self.now h }

@@ -50,14 +50,17 @@ returns-in-Shares-clause-answers g c =
     parts_answer g.S.Shares.stands c.args.shares.now c.call_admitted.new.shares c.args.board.now c.call_admitted.new.board c.args.book.now c.args.call.now c.args.manner c.args.member c.call_admitted.result other
     c.call_admitted.ensures.answers c.requires.admitted
 
--- of a next chunk and of a barrier too
+-- of a next chunk, a barrier and the region's end too
 
 pub returns-in-LoopNext-clause-answers : goal.returns-in-LoopNext-clause-answers
 returns-in-LoopNext-clause-answers g c =
     let other : served_by c.args.call.now ≢ Book = λ is.
     elim c.in-LoopNext.is [
       | inl e ↦ absurd (let both = sym (ap served_by e) ∙ is in cc)
-      | inr e ↦ absurd (let both = sym (ap served_by e) ∙ is in cc)
+      | inr rest ↦ elim rest [
+        | inl e ↦ absurd (let both = sym (ap served_by e) ∙ is in cc)
+        | inr e ↦ absurd (let both = sym (ap served_by e) ∙ is in cc)
+      ]
     ] in
     parts_answer g.S.Shares.stands c.args.shares.now c.call_admitted-in-LoopNext.new.shares c.args.board.now c.call_admitted-in-LoopNext.new.board c.args.book.now c.args.call.now c.args.manner c.args.member c.call_admitted-in-LoopNext.result other
     c.call_admitted-in-LoopNext.ensures.answers c.requires.admitted

@@ -1,16 +1,16 @@
 use Rattle.std.proofs.Common.{◌≡◌, ◌<◌, ◌∙◌, ℕ, true, false, refl, sym, subst}
 use Rattle.gomp_types.specs.declared.call.Call.TheVariants.{LoopNext}
-use Rattle.gomp_events.specs.declared.event.Arrival.TheVariants.{Barrier}
+use Rattle.gomp_events.specs.declared.event.Arrival.TheVariants.{Barrier, RegionEnd}
 use Rattle.gomp_events.specs.Tags.{tag_with}
 use Rattle.gomp_events.specs.Events.{shares_entered}
-use Rattle.gomp_model.specs.Arrivals.{barrier_row}
+use Rattle.gomp_model.specs.Arrivals.{barrier_row, region_end_row}
 use Rattle.gomp_model.specs.Calls.{row_of}
 use Rattle.gomp_dispatch.specs.Serves.{SharesStand, arrival_op, asked_once}
 use Rattle.gomp_dispatch.proofs.Answered.{share_answers}
 use Rattle.gomp_dispatch.proofs.OpAnswers.{op_answers}
 use Rattle.gomp_dispatch.proofs.Reserved.{keeps_no_more}
 use Rattle.gomp_dispatch.proofs.ShareRows.{call_is_share_row, admitted_in_place}
-use Rattle.gomp_dispatch.proofs.CallOps.{board_call_answers, board_call_is_admitted, barrier_is_op, barrier_is_admitted, arrival_goes_on}
+use Rattle.gomp_dispatch.proofs.CallOps.{board_call_answers, board_call_is_admitted, barrier_is_op, barrier_is_admitted, region_end_is_op, region_end_is_admitted, arrival_goes_on}
 use Rattle.gomp_dispatch.proofs.answer.call_admitted.Goals as goal
 
 -- Tasks and groups, and what cancels the region or a group
@@ -61,3 +61,15 @@ returns-in-Barrier-clause-answers g c =
     let repeated = c.args.manner.repeated in let leaving = c.args.manner.leaving.region in let m = c.args.member in
     rw c.in-Barrier.is (op_answers g.S.Shares.stands c.args.shares.now (g.met.S.Shares.aside c.args.shares.now) (λ h. arrival_op repeated leaving (tag_with Barrier (shares_entered m h))) barrier_row c.args.manner m c.args.board.now c.arrival_reply.new.board c.arrival_reply.result
     (subst (λ (n : ℕ). m < n) (sym c.requires.team) c.requires.member) ready c.arrival_reply.ensures.performs (λ p parts ready_there made. barrier_is_op g.S.Shares.stands c.args.shares.now repeated leaving m c.args.board.now p parts ready_there) refl (arrival_goes_on Barrier m repeated leaving))
+
+-- The region's end
+
+pub arrival_reply-requires-in-RegionEnd-clause-admitted : goal.arrival_reply-requires-in-RegionEnd-clause-admitted
+arrival_reply-requires-in-RegionEnd-clause-admitted g c = region_end_is_admitted g.S.Shares.stands c.args.shares.now c.args.manner c.args.member c.args.board.now (rw c.in-RegionEnd.is at c.requires.admitted)
+
+pub returns-in-RegionEnd-clause-answers : goal.returns-in-RegionEnd-clause-answers
+returns-in-RegionEnd-clause-answers g c =
+    let ready = rw c.in-RegionEnd.is at c.requires.admitted in
+    let repeated = c.args.manner.repeated in let leaving = c.args.manner.leaving.region in let m = c.args.member in
+    rw c.in-RegionEnd.is (op_answers g.S.Shares.stands c.args.shares.now (g.met.S.Shares.aside c.args.shares.now) (λ h. arrival_op repeated leaving (tag_with RegionEnd (shares_entered m h))) region_end_row c.args.manner m c.args.board.now c.arrival_reply-in-RegionEnd.new.board c.arrival_reply-in-RegionEnd.result
+    (subst (λ (n : ℕ). m < n) (sym c.requires.team) c.requires.member) ready c.arrival_reply-in-RegionEnd.ensures.performs (λ p parts ready_there made. region_end_is_op g.S.Shares.stands c.args.shares.now repeated leaving m c.args.board.now p parts ready_there made.leaves.region) refl (arrival_goes_on RegionEnd m repeated leaving))
