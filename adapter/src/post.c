@@ -137,7 +137,8 @@ APART void post_call(struct team *team, int number, bool asks_again, const struc
 {
     struct member *member = &team->members[number];
     unsigned posts = atomic_load_explicit(&member->posts, memory_order_relaxed);
-    bool is_large = team->size > FEW_MEMBERS; // a posted region's end is the last that the member knows of the team
+    // Looked at before the post: once its region's end is posted the member knows no more of the team.
+    bool is_large = team->size > FEW_MEMBERS;
     member->asks_again = asks_again;
     member->posted = *call;
     atomic_store_explicit(&member->posts, (unsigned char)(posts + 1), memory_order_release);

@@ -130,6 +130,7 @@ impl Shares for RingAll {
         last == next
     }
 
+    #[inline(always)]
     fn try_open(&mut self, member: u16, shape: &Shape) -> Opening {
         let _numbers = (shape.start, shape.incr);
         let next = self.seats[member as usize].seen.entered;
