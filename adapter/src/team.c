@@ -193,8 +193,8 @@ static void note_class_locked(struct team *team, struct member *member, const st
     case CLASS_LOCK_MADE:
     case CLASS_LOCK_DESTROYED: locks_made_note(&team->locks_made, call, reply); break;
     case CLASS_TASK_END: note_left_locked(member, call->task); break;
+    case CLASS_REGION_END: team->passed++; break;
     case CLASS_NONE:
-    case CLASS_REGION_END:
     case CLASS_TASK:
     case CLASS_TASKWAIT:
     case CLASS_CANCEL: break;
@@ -628,7 +628,7 @@ void team_begin(struct team *team, int size, start_members *start, void *region)
 {
     mutex_lock(&team->lock);
     team->size = size;
-    team->waiting = 0;
+    team->waiting = team->passed = 0;
     team->in_use = true;
     team->is_cancelled = team->has_cancelled = false;
     team->number = atomic_fetch_add(&teams_begun, 1) + 1;
@@ -708,6 +708,16 @@ void team_rest(struct team *team)
 {
     if (team->in_use)
         finish(team);
+}
+
+// Whether all members have passed the region's end, so that none makes a call of it any more. One that was given a task there asks
+// once more behind it, when others may have passed.
+bool team_is_passed(struct team *team)
+{
+    mutex_lock(&team->lock);
+    bool is_passed = team->passed == team->size;
+    mutex_unlock(&team->lock);
+    return is_passed;
 }
 
 // The teams one after another, from the first one (after NULL); NULL at the end.
